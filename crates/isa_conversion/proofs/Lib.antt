@@ -1,0 +1,4 @@
+pub mod Functions
+pub mod Typed
+pub mod Conv
+pub mod Normal

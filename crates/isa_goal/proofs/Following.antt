@@ -1,0 +1,188 @@
+-- States that follow from others.
+use Rattle.std.proofs.Common.{◌≡◌, ◌⊎◌, inl, inr, ℕ, List, [], ◌∷◌, ◌++◌, map, Bool, true, false, cond, ◌&&◌, Option, Some, None, refl, sym, ap, ◌∙◌, subst}
+use Rattle.isa_terms.specs.Types.{Ty, Tys, TyCon, TyFixed, TyUnknown, NoTys, MoreTys}
+use Rattle.isa_terms.specs.Terms.{Tm, Const, Free, Unknown, Bound, Abs, App, bare}
+use Rattle.isa_terms.specs.Equal.{tm_eq}
+use Rattle.isa_terms.specs.Instance.{inst_ty, inst_tys, inst_tm}
+use Rattle.isa_terms.specs.declared.inst.TypeEntry.{TypeEntry}
+use Rattle.isa_terms.specs.declared.inst.TermEntry.{TermEntry}
+use Rattle.isa_terms.proofs.Bare.{tm_decides, type_at_bare}
+use Rattle.isa_terms.specs.Norm.{norm}
+use Rattle.isa_terms.specs.Normal.{IsNormal}
+use Rattle.isa_kernel.specs.Logic.{prop, imp, IsProposition}
+use Rattle.isa_kernel.specs.Derivation.{Member, Within, Derives}
+use Rattle.isa_kernel.specs.Theorem.{Theorem, IsDerived}
+use Rattle.isa_kernel.specs.Inferences.{keeps, instantiated}
+use Rattle.isa_conversion.proofs.Functions.{bind_some, cond_some}
+use Rattle.isa_kernel.proofs.Members.{bares, Member-left, Member-right}
+use Rattle.isa_kernel.proofs.Instances.{instantiated_sound}
+use Rattle.isa_conversion.proofs.Normal.{norm_same}
+use Rattle.isa_goal.specs.Goals.{Goals, implies, IsStanding, around, rule_form, refined}
+use Rattle.isa_goal.specs.Follows.{instance, Each, Follows, Reduces, instanced, IsNormalState}
+use Rattle.isa_goal.proofs.Deriving.{ArePropositions, propositions_append, propositions_left, propositions_right, propositions_bare, propositions_member, implies_bare, derived_propositions, derive_more, derive_assume, derive_intros, derive_elims}
+use Rattle.isa_goal.proofs.Refining.{around_made, rule_made, standing_propositions, rule_propositions, placed}
+
+-- ---- derivations of `ps ==> q`
+abbrev From : List Tm → List Tm → Tm → Type 0
+From ax ps q = Derives (bares ax) [] (bare (implies ps q))
+
+-- q follows from the ps where it follows from each list of hypotheses that has them
+from_all : (ax ps : List Tm) (q : Tm) → ArePropositions ps → ((G : List Tm) → Within (bares ps) G → Derives (bares ax) G (bare q)) → From ax ps q
+from_all ax ps q w h = subst (λ p. Derives (bares ax) [] p) (sym (implies_bare ps q)) (derive_intros (bares ps) [] (bare q) (propositions_bare ps w) (λ G f g. h G f))
+
+-- under hypotheses that have the ps
+under : (ax ps : List Tm) (q : Tm) (G : List Tm) → From ax ps q → ((r : Tm) → Member r (bares ps) → Derives (bares ax) G r) → Derives (bares ax) G (bare q)
+under ax ps q G d h = derive_elims (bares ps) (bare q) (subst (λ p. Derives (bares ax) G p) (implies_bare ps q) (derive_more (λ r m. m) (λ r m. absurd m) d)) h
+
+bare_member : (t : Tm) (ts : List Tm) → Member t ts → Member (bare t) (bares ts)
+bare_member t [] m = absurd m
+bare_member t (u ∷ us) (inl e) = inl (ap bare e)
+bare_member t (u ∷ us) (inr m) = inr (bare_member t us m)
+
+-- each of the premises follows from them all
+itself : (ax ps : List Tm) (q : Tm) → ArePropositions ps → Member q ps → From ax ps q
+itself ax ps q w m = from_all ax ps q w (λ G f. derive_assume G (bare q) (f (bare q) (bare_member q ps m)) (type_at_bare [] q ∙ propositions_member ps q w m))
+
+each_of : {P : Tm → Type 0} (ts : List Tm) → ((t : Tm) → Member t ts → P t) → Each P ts
+each_of [] h = tt
+each_of (t ∷ ts) h = (h t (inl refl), each_of ts (λ u m. h u (inr m)))
+
+of_each : (P : Tm → Type 0) (ts : List Tm) → Each P ts → (t : Tm) → Member t ts → P t
+of_each P [] e t m = absurd m
+of_each P (u ∷ us) e t (inl q) = subst P (sym q) e.0
+of_each P (u ∷ us) e t (inr m) = of_each P us e.1 t m
+
+-- ---- refining
+bares_front : (xs ys : List Tm) (q : Tm) → Member q (bares xs) → Member q (bares (xs ++ ys))
+bares_front [] ys q m = absurd m
+bares_front (x ∷ xs) ys q (inl e) = inl e
+bares_front (x ∷ xs) ys q (inr m) = inr (bares_front xs ys q m)
+
+bares_back : (xs ys : List Tm) (q : Tm) → Member q (bares ys) → Member q (bares (xs ++ ys))
+bares_back [] ys q m = m
+bares_back (x ∷ xs) ys q m = inr (bares_back xs ys q m)
+
+split : (x : Tm) (us vs : List Tm) (a : Tm) → Member x (us ++ (a ∷ vs)) → Member x us ⊎ ((x ≡ a) ⊎ Member x vs)
+split x [] vs a m = inr m
+split x (u ∷ us) vs a (inl e) = inl (inl e)
+split x (u ∷ us) vs a (inr m) = elim (split x us vs a m) [ inl k ↦ inl (inr k) | inr k ↦ inr k ]
+
+module _ (ax us bs vs : List Tm) (a r : Tm) (ws : ArePropositions (us ++ (bs ++ vs))) (wb : ArePropositions bs) (same : bare a ≡ bare r) (rule : From ax bs r) where
+  -- the subgoal that the rule concludes
+  met : (x : Tm) → x ≡ a → From ax (us ++ (bs ++ vs)) x
+  met x e = from_all ax (us ++ (bs ++ vs)) x ws (λ G h.
+      subst (λ p. Derives (bares ax) G p) (sym same ∙ ap bare (sym e))
+      (under ax bs r G rule (λ q m. derive_assume G q (h q (bares_back us (bs ++ vs) q (bares_front bs vs q m))) (propositions_member (bares bs) q (propositions_bare bs wb) m))))
+
+  -- each of the old subgoals
+  old : (x : Tm) → Member x (us ++ (a ∷ vs)) → From ax (us ++ (bs ++ vs)) x
+  old x m = elim (split x us vs a m) [
+    | inl k ↦ itself ax (us ++ (bs ++ vs)) x ws (Member-left x us (bs ++ vs) k)
+    | inr k ↦ elim k [ inl e ↦ met x e | inr n ↦ itself ax (us ++ (bs ++ vs)) x ws (Member-right x us (bs ++ vs) (Member-right x bs vs n)) ]
+  ]
+
+placed_reduces : (i n : ℕ) (th : Theorem) (s : Goals) (at : List Tm × Tm × List Tm) (parts : List Tm × Tm) → around i s.subgoals ≡ Some at → rule_form n th ≡ Some parts → bare at.1 ≡ bare parts.1 → IsStanding s → IsDerived th → Reduces th.base s (placed s th at parts.0)
+placed_reduces i n th s at parts a r same d f =
+    let here = around_made i s.subgoals at a in
+    let all : ArePropositions (at.0 ++ (at.1 ∷ at.2)) = subst (λ ts. ArePropositions ts) here (standing_propositions s d) in
+    let us : ArePropositions at.0 = propositions_left at.0 (at.1 ∷ at.2) all in
+    let vs : ArePropositions (at.1 ∷ at.2) = propositions_right at.0 (at.1 ∷ at.2) all in
+    let bs : ArePropositions parts.0 = rule_propositions n th parts r f in
+    let news : List Tm = at.0 ++ (parts.0 ++ at.2) in
+    let ws : ArePropositions news = propositions_append at.0 (parts.0 ++ at.2) us (propositions_append parts.0 at.2 bs vs.1) in
+    let rule : From th.base parts.0 parts.1 = subst (λ (x : Theorem). Derives (bares th.base) (bares x.hyps) (bare x.prop)) (rule_made n th parts r) f.derivation in
+    record {
+      goal = refl;
+      subgoals = subst (λ ts. Each (λ x. From th.base news x) ts) (sym here) (each_of (at.0 ++ (at.1 ∷ at.2)) (old th.base at.0 parts.0 at.2 at.1 parts.1 ws bs same rule));
+    }
+
+pub refined_reduces : (i n : ℕ) (th : Theorem) (s t : Goals) → refined i th n s ≡ Some t → IsStanding s → IsDerived th → Reduces th.base s t
+refined_reduces i n th s t e d f =
+    let a = bind_some (around i s.subgoals) _ e in
+    let r = bind_some (rule_form n th) _ a.2 in
+    let c = cond_some (tm_eq a.0.1 r.0.1) _ r.2 in
+    subst (λ x. Reduces th.base s x) (cc (c.1)) (placed_reduces i n th s a.0 r.0 a.1 r.1 ((tm_decides a.0.1 r.0.1).0 c.0) d f)
+
+-- ---- instances
+pub instance_implies : (es : List TypeEntry) (fs : List TermEntry) (ps : List Tm) (c : Tm) → instance es fs (implies ps c) ≡ implies (map (instance es fs) ps) (instance es fs c)
+instance_implies es fs [] c = refl
+instance_implies es fs (p ∷ ps) c = ap (imp (instance es fs p)) (instance_implies es fs ps c)
+
+pub instantiated_is : (es : List TypeEntry) (fs : List TermEntry) (p : Tm) (B : List Tm) → keeps es fs ≡ true → instantiated es fs (record { hyps = []; prop = p; base = B }) ≡ Some (record { hyps = []; prop = instance es fs p; base = B })
+instantiated_is es fs p B k = ap (λ b. cond (b && true) (Some (record { hyps = []; prop = instance es fs p; base = B })) None) k
+
+from_instance : (ax : List Tm) (es : List TypeEntry) (fs : List TermEntry) (ps : List Tm) (q : Tm) → keeps es fs ≡ true → From ax ps q → From ax (map (instance es fs) ps) (instance es fs q)
+from_instance ax es fs ps q k d =
+    let th : IsDerived (record { hyps = []; prop = instance es fs (implies ps q); base = ax }) = instantiated_sound es fs (record { hyps = []; prop = implies ps q; base = ax }) _ (instantiated_is es fs (implies ps q) ax k) (record { derivation = d }) in
+    subst (λ p. Derives (bares ax) [] (bare p)) (instance_implies es fs ps q) th.derivation
+
+-- what is reduced and then instantiated follows
+pub instanced_follows : (ax : List Tm) (es : List TypeEntry) (fs : List TermEntry) (s t : Goals) → keeps es fs ≡ true → Reduces ax s t → Follows ax s (instanced es fs t)
+instanced_follows ax es fs s t k d = record {
+  types = es;
+  terms = fs;
+  kept = k;
+  goal = ap (λ g. bare (instance es fs g)) d.goal;
+  subgoals = each_of s.subgoals (λ a m. from_instance ax es fs t.subgoals a k (of_each _ s.subgoals d.subgoals a m));
+}
+
+-- ---- the empty instance
+mutual
+  pub empty_ty : (T : Ty) → inst_ty [] T ≡ T
+  empty_ty (TyCon x Ts) = ap (TyCon x) (empty_tys Ts)
+  empty_ty (TyFixed x) = refl
+  empty_ty (TyUnknown x i) = refl
+
+  empty_tys : (Ts : Tys) → inst_tys [] Ts ≡ Ts
+  empty_tys NoTys = refl
+  empty_tys (MoreTys T Ts) = λ i. MoreTys (empty_ty T i) (empty_tys Ts i)
+
+empty_tm : (t : Tm) → inst_tm [] [] t ≡ t
+empty_tm (Const x T) = ap (Const x) (empty_ty T)
+empty_tm (Free x T) = ap (Free x) (empty_ty T)
+empty_tm (Unknown x n T) = ap (Unknown x n) (empty_ty T)
+empty_tm (Bound n) = refl
+empty_tm (Abs x T b) = λ i. Abs x (empty_ty T i) (empty_tm b i)
+empty_tm (App f a) = λ i. App (empty_tm f i) (empty_tm a i)
+
+pub empty_instance : (t : Tm) → IsNormal t → instance [] [] t ≡ t
+empty_instance t h = ap norm (empty_tm t) ∙ norm_same t h
+
+-- a normal state follows from itself, and what reduces it follows from it
+pub reduced_follows : (ax : List Tm) (s t : Goals) → IsNormalState s → Reduces ax s t → Follows ax s t
+reduced_follows ax s t n d = record {
+  types = [];
+  terms = [];
+  kept = refl;
+  goal = ap bare (d.goal ∙ sym (empty_instance s.goal n.goal));
+  subgoals = each_of s.subgoals (λ a m. subst (λ q. From ax t.subgoals q) (sym (empty_instance a (of_each _ s.subgoals n.subgoals a m))) (of_each _ s.subgoals d.subgoals a m));
+}
+
+pub reduces_itself : (s : Goals) → IsStanding s → Reduces [] s s
+reduces_itself s d = record { goal = refl; subgoals = each_of s.subgoals (λ a m. itself [] s.subgoals a (standing_propositions s d) m) }
+
+-- ---- one after the other
+chain : (ax : List Tm) (ps qs : List Tm) (a : Tm) → ArePropositions qs → From ax ps a → ((p : Tm) → Member p ps → From ax qs p) → From ax qs a
+chain ax ps qs a w d h = from_all ax qs a w (λ G f. under ax ps a G d (λ r m. each_under ps r G f h m))
+  where
+    each_under : (ps : List Tm) (r : Tm) (G : List Tm) → Within (bares qs) G → ((p : Tm) → Member p ps → From ax qs p) → Member r (bares ps) → Derives (bares ax) G r
+    each_under [] r G f h m = absurd m
+    each_under (p ∷ ps) r G f h (inl e) = subst (λ x. Derives (bares ax) G x) (sym e) (under ax qs p G (h p (inl refl)) (λ q n. derive_assume G q (f q n) (propositions_member (bares qs) q (propositions_bare qs w) n)))
+    each_under (p ∷ ps) r G f h (inr m) = each_under ps r G f (λ q n. h q (inr n)) m
+
+map_member : (g : Tm → Tm) (P : Tm → Type 0) (ts : List Tm) → ((t : Tm) → Member t ts → P (g t)) → (u : Tm) → Member u (map g ts) → P u
+map_member g P [] h u m = absurd m
+map_member g P (t ∷ ts) h u (inl e) = subst P (sym e) (h t (inl refl))
+map_member g P (t ∷ ts) h u (inr m) = map_member g P ts (λ x n. h x (inr n)) u m
+
+-- a state that follows from one to which another reduces
+pub reduces_follows : (ax : List Tm) (s t u : Goals) → ArePropositions u.subgoals → Reduces ax s t → Follows ax t u → Follows ax s u
+reduces_follows ax s t u w d f = record {
+  types = f.types;
+  terms = f.terms;
+  kept = f.kept;
+  goal = f.goal ∙ ap (λ g. bare (instance f.types f.terms g)) d.goal;
+  subgoals = each_of s.subgoals (λ a m. chain ax (map (instance f.types f.terms) t.subgoals) u.subgoals (instance f.types f.terms a) w
+      (from_instance ax f.types f.terms t.subgoals a f.kept (of_each _ s.subgoals d.subgoals a m))
+      (map_member (instance f.types f.terms) (λ p. From ax u.subgoals p) t.subgoals (of_each _ t.subgoals f.subgoals)));
+}

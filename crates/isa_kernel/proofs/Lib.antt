@@ -1,0 +1,9 @@
+pub mod Parts
+pub mod Members
+pub mod Rules
+pub mod Sound
+pub mod Fill
+pub mod Closed
+pub mod Preserved
+pub mod Instances
+pub mod Generals

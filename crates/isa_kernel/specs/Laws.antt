@@ -1,0 +1,16 @@
+-- Laws of the pure logic.
+use Rattle.std.specs.Prelude.{List, []}
+use Rattle.isa_terms.specs.Types.{Ty}
+use Rattle.isa_terms.specs.Terms.{Tm, bare}
+use Rattle.isa_terms.specs.Typing.{HasType}
+use Rattle.isa_kernel.specs.Logic.{eq, IsProposition}
+use Rattle.isa_kernel.specs.Derivation.{Tree}
+use Rattle.isa_terms.specs.Norm.{norm}
+
+-- each well-typed term without loose bound variables has a derivation, from no axiom and no hypothesis, that it equals its normal form
+abbrev pub NormalFormsAreDerived : Type 0
+NormalFormsAreDerived = (t : Tm) (T : Ty) → HasType t T → Tree [] [] (eq T (bare t) (bare (norm t)))
+
+-- whatever is derived is a proposition: it is well typed, and has no loose bound variables
+abbrev pub DerivedArePropositions : Type 0
+DerivedArePropositions = (ax H : List Tm) (p : Tm) → Tree ax H p → IsProposition p

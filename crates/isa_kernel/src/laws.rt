@@ -1,0 +1,11 @@
+ghost use Rattle.isa_kernel.specs.Laws.{NormalFormsAreDerived, DerivedArePropositions};
+
+/// A well-typed term equals its normal form in the pure logic.
+pub fn normal_forms_are_derived()
+    ensures { NormalFormsAreDerived }
+{}
+
+/// Whatever is derived is a well-typed proposition.
+pub fn derived_are_propositions()
+    ensures { DerivedArePropositions }
+{}

@@ -1,0 +1,4 @@
+pub mod Types
+pub mod Equal
+pub mod Bare
+pub mod Steps

@@ -1,0 +1,28 @@
+//! Types and terms.
+#![tactic(auto)]
+
+mod binding;
+mod generalize;
+mod inst;
+mod measure;
+mod name;
+mod normal;
+mod replace;
+mod same;
+mod term;
+mod terms;
+mod typ;
+mod typing;
+
+pub use binding::{closed, occurs, occurs_in};
+pub use generalize::{gen_term, gen_typ, named_in_some};
+pub use inst::{TermEntry, TypeEntry, in_some, in_term, in_typ, inst_term, inst_typ};
+pub use measure::size;
+pub use name::Name;
+pub use normal::{height, norm};
+pub use replace::{put_at, raised, replaced};
+pub use same::{same_term, same_typ};
+pub use term::{Term, TermNode};
+pub use terms::{Terms, copied, has, joined, without};
+pub use typ::{Typ, TypNode, Typs};
+pub use typing::{IllTyped, Place, Turn, function_type, split_function, type_of};
