@@ -13,6 +13,7 @@ pub mod Context
 pub mod Sets
 pub mod Binding
 pub mod Instance
+pub mod Entries
 pub mod EntryCodes
 pub mod Generalize
 pub mod Norm
