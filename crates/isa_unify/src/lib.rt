@@ -1,0 +1,2 @@
+//! Unification of types, matching of patterns, and unification of patterns.
+#![tactic(auto)]
