@@ -1,1 +1,4 @@
 pub mod Descent
+pub mod Tests
+pub mod TypeInstances
+pub mod TypesUnify
