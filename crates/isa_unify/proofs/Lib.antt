@@ -2,3 +2,4 @@ pub mod Descent
 pub mod Tests
 pub mod TypeInstances
 pub mod TypesUnify
+pub mod Stacks

@@ -32,9 +32,13 @@ abbrev mutual
 abbrev pub one : List ℕ → ℕ → Ty → List TypeEntry
 one x i T = record { name = x; number = i; typ = T } ∷ []
 
+-- the entries es with their types under s
+abbrev pub entries_under : List TypeEntry → List TypeEntry → List TypeEntry
+entries_under s es = map (λ (e : TypeEntry). record e { typ = inst_ty s e.typ }) es
+
 -- s, and then r
 abbrev pub followed_by : List TypeEntry → List TypeEntry → List TypeEntry
-followed_by s r = map (λ (e : TypeEntry). record e { typ = inst_ty r e.typ }) s ++ r
+followed_by s r = entries_under r s ++ r
 
 abbrev pub equations_under : List TypeEntry → List (Ty × Ty) → List (Ty × Ty)
 equations_under s es = map (λ (e : Ty × Ty). (inst_ty s e.0, inst_ty s e.1)) es
