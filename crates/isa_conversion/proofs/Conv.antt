@@ -1,21 +1,13 @@
 -- Conversion under binders, and that a term converts to its normal form.
-use Rattle.std.proofs.Common.{◌≡◌, ℕ, zero, suc, ◌+◌, ◌-◌, List, [], ◌∷◌, ◌++◌, length, Bool, true, false, cond, nat_eq, nat_lt, refl, sym, ap, ◌∙◌, subst, arith}
+use Rattle.std.proofs.Common.{◌≡◌, ℕ, zero, suc, ◌+◌, List, [], ◌∷◌, ◌++◌, length, Bool, true, false, cond, nat_eq, refl, sym, ap, subst, arith}
 use Rattle.std.proofs.lemmas.Bool.Decides.{nat_tests}
 use Rattle.isa_terms.specs.Types.{Ty}
 use Rattle.isa_terms.specs.Terms.{Tm, Const, Free, Unknown, Bound, Abs, App}
 use Rattle.isa_terms.specs.Typing.{function_of}
 use Rattle.isa_terms.specs.Replace.{raise, put, replace}
-use Rattle.isa_terms.specs.Norm.{loose, eta, eta_at, put_normal, beta, apply, levels, norm}
+use Rattle.isa_terms.specs.Norm.{loose, eta, eta_at, put_normal, apply, levels, norm}
 use Rattle.isa_conversion.proofs.Typed.{Typed, TConst, TFree, TUnknown, TBound, TAbs, TApp, raise_typed, put_typed, drop_typed, unloose}
-
-pub data Conv : List Ty → Ty → Tm → Tm → Type 0 where
-  CRefl : {G : List Ty} {T : Ty} {t : Tm} → Typed G t T → Conv G T t t
-  CSym : {G : List Ty} {T : Ty} {t u : Tm} → Conv G T t u → Conv G T u t
-  CTrans : {G : List Ty} {T : Ty} {t u v : Tm} → Conv G T t u → Conv G T u v → Conv G T t v
-  CApp : {G : List Ty} {S T : Ty} {f g a b : Tm} → Conv G (function_of S T) f g → Conv G S a b → Conv G T (App f a) (App g b)
-  CAbs : {G : List Ty} {x : List ℕ} {S T : Ty} {b c : Tm} → Conv (S ∷ G) T b c → Conv G (function_of S T) (Abs x S b) (Abs x S c)
-  CBeta : {G : List Ty} {x : List ℕ} {S T : Ty} {b a : Tm} → Typed (S ∷ G) b T → Typed G a S → Conv G T (App (Abs x S b) a) (replace b a)
-  CEta : {G : List Ty} {x : List ℕ} {S T : Ty} {f : Tm} → Typed G f (function_of S T) → Conv G (function_of S T) (Abs x S (App (raise 1 0 f) (Bound 0))) f
+pub use Rattle.isa_conversion.specs.Conversion.{Conv, CRefl, CSym, CTrans, CApp, CAbs, CBeta, CEta}
 
 mutual
   pub left_typed : {G : List Ty} {T : Ty} {t u : Tm} → Conv G T t u → Typed G t T

@@ -2,3 +2,12 @@ pub mod Functions
 pub mod Typed
 pub mod Conv
 pub mod Normal
+pub mod Erased
+pub mod Renaming
+pub mod Parallel
+pub mod Diamond
+pub mod Confluence
+pub mod Erasing
+pub mod Unique
+pub mod Names
+pub mod Laws

@@ -1,15 +1,15 @@
 -- The normal form of a well-typed term is normal.
-use Rattle.std.proofs.Common.{◌≡◌, ◌≢◌, ◌⊎◌, inl, inr, ℕ, zero, suc, ◌+◌, ◌-◌, ◌<◌, ◌≤◌, max, List, [], ◌∷◌, ◌++◌, length, Bool, true, false, cond, not, ◌&&◌, ◌||◌, nat_eq, nat_lt, Some, refl, sym, ap, ◌∙◌, subst, arith}
+use Rattle.std.proofs.Common.{◌≡◌, ◌≢◌, ◌⊎◌, inl, inr, ℕ, zero, suc, ◌+◌, ◌-◌, ◌<◌, ◌≤◌, List, [], ◌∷◌, ◌++◌, length, Bool, true, false, cond, not, ◌&&◌, ◌||◌, nat_eq, nat_lt, Some, refl, sym, ap, ◌∙◌, subst, arith}
 use Rattle.std.specs.List.{slice_get}
 use Rattle.std.proofs.lemmas.Bool.Decides.{nat_tests}
-use Rattle.isa_terms.specs.Types.{Ty, Tys, TyCon, TyFixed, TyUnknown}
+use Rattle.isa_terms.specs.Types.{Ty, TyCon, TyFixed, TyUnknown}
 use Rattle.isa_terms.specs.Terms.{Tm, Const, Free, Unknown, Bound, Abs, App}
 use Rattle.isa_terms.specs.Typing.{function_of}
 use Rattle.isa_terms.specs.Replace.{raise, put, replace}
-use Rattle.isa_terms.specs.Norm.{ty_height, loose, eta, eta_at, put_normal, beta, apply, levels, norm}
+use Rattle.isa_terms.specs.Norm.{ty_height, loose, eta, eta_at, put_normal, apply, levels, norm}
 use Rattle.isa_terms.specs.Normal.{redex_at, redex, IsHead, IsNormal}
 use Rattle.isa_conversion.proofs.Typed.{Typed, TConst, TFree, TUnknown, TBound, TAbs, TApp, get_at}
-use Rattle.isa_conversion.proofs.Conv.{Conv, right_typed, put_conv, apply_conv, norm_conv}
+use Rattle.isa_conversion.proofs.Conv.{right_typed, put_conv, apply_conv, norm_conv}
 
 -- ---- the variables below the ones that move
 lt_true : (i k : ℕ) → i < k → nat_lt i k ≡ true

@@ -1,27 +1,19 @@
 -- Typing as a relation, and that replacement keeps it.
-use Rattle.std.proofs.Common.{◌≡◌, ◌≢◌, ℕ, zero, suc, ◌+◌, ◌-◌, ◌<◌, ◌≤◌, List, [], ◌∷◌, ◌++◌, length, Bool, true, false, cond, ◌||◌, nat_eq, nat_lt, Option, Some, None, Result, Ok, Err, refl, sym, ap, ◌∙◌, subst, arith, codes}
+use Rattle.std.proofs.Common.{◌≡◌, ◌≢◌, ℕ, zero, suc, ◌+◌, ◌-◌, ◌<◌, ◌≤◌, List, [], ◌∷◌, ◌++◌, length, Bool, true, false, cond, ◌||◌, nat_eq, nat_lt, Option, Some, None, Result, Ok, Err, refl, sym, ap, ◌∙◌, subst, arith}
 use Rattle.std.specs.List.{slice_get}
-use Rattle.std.proofs.lemmas.Bool.Decides.{eqb_tells, leb_tells, nat_tests}
+use Rattle.std.proofs.lemmas.Bool.Decides.{nat_tests}
 use Rattle.isa_terms.specs.Types.{Ty}
 use Rattle.isa_terms.specs.Terms.{Tm, Const, Free, Unknown, Bound, Abs, App}
 use Rattle.isa_terms.specs.Equal.{ty_eq}
 use Rattle.isa_terms.specs.Typing.{type_at, function_of, function_parts, deeper, abs_type, app_type, given_type, bound_type}
-use Rattle.isa_terms.specs.Replace.{raise, put, replace}
+use Rattle.isa_terms.specs.Replace.{raise, put}
 use Rattle.isa_terms.specs.declared.typing.IllTyped.{IllTyped}
 use Rattle.isa_terms.specs.declared.typing.IllTyped.TheVariants.{NotFunction, Differs, Loose, Memory}
 use Rattle.isa_terms.specs.declared.typing.Turn.TheVariants.{Fun, Arg, Body}
 use Rattle.isa_terms.proofs.Equal.{ty_decides}
 use Rattle.isa_conversion.proofs.Functions.{function_made}
 use Rattle.isa_terms.specs.Norm.{loose}
-
--- t has the type T under binders of the types G
-pub data Typed : List Ty → Tm → Ty → Type 0 where
-  TConst : {G : List Ty} {x : List ℕ} {T : Ty} → Typed G (Const x T) T
-  TFree : {G : List Ty} {x : List ℕ} {T : Ty} → Typed G (Free x T) T
-  TUnknown : {G : List Ty} {x : List ℕ} {i : ℕ} {T : Ty} → Typed G (Unknown x i T) T
-  TBound : {G : List Ty} {n : ℕ} {T : Ty} → slice_get G n ≡ Some T → Typed G (Bound n) T
-  TAbs : {G : List Ty} {x : List ℕ} {S T : Ty} {b : Tm} → Typed (S ∷ G) b T → Typed G (Abs x S b) (function_of S T)
-  TApp : {G : List Ty} {S T : Ty} {f a : Tm} → Typed G f (function_of S T) → Typed G a S → Typed G (App f a) T
+pub use Rattle.isa_conversion.specs.Typed.{Typed, TConst, TFree, TUnknown, TBound, TAbs, TApp}
 
 -- ---- the function and the relation agree
 function_parts_of : (S T : Ty) → function_parts (function_of S T) ≡ Some (S, T)

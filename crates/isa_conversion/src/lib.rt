@@ -1,9 +1,47 @@
 //! Laws of typed terms, their conversion and their normal forms.
 #![tactic(auto)]
 
-ghost use Rattle.isa_conversion.specs.Laws.{NormalFormsAreNormal};
+ghost use Rattle.isa_conversion.specs.Laws.{TypesAreGiven, NormalFormsAreNormal, NormalTermsStay, NormalisingIsIdempotent};
+ghost use Rattle.isa_conversion.specs.Laws.{TermsConvertToNormalForms, NormalFormsAreUnique, ApplicationIsReplacement};
+
+/// The type that a term's parts give it is the one that the rules of typing give it.
+#[tactic(auto, using(crate::proofs::Laws::types_are_given_law))]
+pub fn types_are_given()
+    ensures { TypesAreGiven }
+{}
 
 /// The normal form of a well-typed term has its type and is normal.
+#[tactic(auto, using(crate::proofs::Laws::normal_forms_are_normal_law))]
 pub fn normal_forms_are_normal()
     ensures { NormalFormsAreNormal }
+{}
+
+/// A normal term is its own normal form.
+#[tactic(auto, using(crate::proofs::Laws::normal_terms_stay_law))]
+pub fn normal_terms_stay()
+    ensures { NormalTermsStay }
+{}
+
+/// The normal form of a well-typed term's normal form is that form.
+#[tactic(auto, using(crate::proofs::Laws::normalising_is_idempotent_law))]
+pub fn normalising_is_idempotent()
+    ensures { NormalisingIsIdempotent }
+{}
+
+/// A well-typed term converts to its normal form, by beta and eta.
+#[tactic(auto, using(crate::proofs::Laws::terms_convert_law))]
+pub fn terms_convert_to_normal_forms()
+    ensures { TermsConvertToNormalForms }
+{}
+
+/// Terms of one type convert exactly where their normal forms are equal but for the names of binders.
+#[tactic(auto, using(crate::proofs::Laws::normal_forms_are_unique_law))]
+pub fn normal_forms_are_unique()
+    ensures { NormalFormsAreUnique }
+{}
+
+/// A well-typed application of an abstraction is replacement in its body, and then normalising.
+#[tactic(auto, using(crate::proofs::Laws::application_is_replacement_law))]
+pub fn application_is_replacement()
+    ensures { ApplicationIsReplacement }
 {}

@@ -1,0 +1,46 @@
+-- The laws of conversion and of normal forms.
+use Rattle.std.proofs.Common.{◌≡◌, ℕ, List, []}
+use Rattle.isa_terms.specs.Types.{Ty}
+use Rattle.isa_terms.specs.Terms.{Tm, Abs, App, bare}
+use Rattle.isa_terms.specs.Replace.{replace}
+use Rattle.isa_terms.specs.Norm.{norm}
+use Rattle.isa_conversion.specs.Laws.{TypesAreGiven, NormalFormsAreNormal, NormalTermsStay, NormalisingIsIdempotent, TermsConvertToNormalForms, NormalFormsAreUnique, ApplicationIsReplacement}
+use Rattle.isa_conversion.specs.Typed.{Typed, TAbs, TApp}
+use Rattle.isa_conversion.specs.Conversion.{Conv, CBeta}
+use Rattle.isa_conversion.proofs.Typed.{typed_of_type, type_of_typed}
+use Rattle.isa_conversion.proofs.Conv.{right_typed, norm_conv}
+use Rattle.isa_conversion.proofs.Normal.{norm_normal, norm_same}
+use Rattle.isa_conversion.proofs.Names.{norm_same_conv}
+use Rattle.isa_conversion.proofs.Unique.{conv_norm}
+
+pub types_are_given_law : TypesAreGiven
+types_are_given_law G t T = (λ e. typed_of_type G t T e, λ d. type_of_typed d)
+
+pub normal_forms_are_normal_law : NormalFormsAreNormal
+normal_forms_are_normal_law t T h = let d = typed_of_type [] t T h in (type_of_typed (right_typed (norm_conv d)), norm_normal d)
+
+pub normal_terms_stay_law : NormalTermsStay
+normal_terms_stay_law t n = norm_same t n
+
+-- normalising twice is normalising once
+pub norm_twice : {G : List Ty} {t : Tm} {T : Ty} → Typed G t T → norm (norm t) ≡ norm t
+norm_twice {G} {t} {T} d = norm_same (norm t) (norm_normal d)
+
+pub normalising_is_idempotent_law : NormalisingIsIdempotent
+normalising_is_idempotent_law t T h = norm_twice (typed_of_type [] t T h)
+
+pub terms_convert_law : TermsConvertToNormalForms
+terms_convert_law G t T d = norm_conv d
+
+pub normal_forms_are_unique_law : NormalFormsAreUnique
+normal_forms_are_unique_law G T t u d e = (λ c. conv_norm c, λ s. norm_same_conv d e s)
+
+-- a redex converts to what it becomes
+pub beta_conv : {G : List Ty} {x : List ℕ} {S T : Ty} {b a : Tm} → Typed G (App (Abs x S b) a) T → Conv G T (App (Abs x S b) a) (replace b a)
+beta_conv (TApp (TAbs d) e) = CBeta d e
+
+pub beta_norm : {G : List Ty} {x : List ℕ} {S T : Ty} {b a : Tm} → Typed G (App (Abs x S b) a) T → bare (norm (App (Abs x S b) a)) ≡ bare (norm (replace b a))
+beta_norm d = conv_norm (beta_conv d)
+
+pub application_is_replacement_law : ApplicationIsReplacement
+application_is_replacement_law x S T b a h = beta_norm (typed_of_type [] (App (Abs x S b) a) T h)
