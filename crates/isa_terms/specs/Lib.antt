@@ -1,3 +1,4 @@
+pub mod Bytes
 pub mod Types
 pub mod Terms
 pub mod Equal
@@ -12,6 +13,7 @@ pub mod Context
 pub mod Sets
 pub mod Binding
 pub mod Instance
+pub mod EntryCodes
 pub mod Generalize
 pub mod Norm
 pub mod Cost

@@ -4,6 +4,8 @@
 mod binding;
 mod generalize;
 mod inst;
+mod instance;
+mod lists;
 mod measure;
 mod name;
 mod normal;
@@ -17,6 +19,8 @@ mod typing;
 pub use binding::{closed, occurs, occurs_in};
 pub use generalize::{gen_term, gen_typ, named_in_some};
 pub use inst::{TermEntry, TypeEntry, in_some, in_term, in_typ, inst_term, inst_typ};
+pub use instance::{Inst, instantiate};
+pub use lists::{Names, TermEntries, Text, TypeEntries};
 pub use measure::size;
 pub use name::Name;
 pub use normal::{height, norm};
