@@ -1,0 +1,5 @@
+pub mod Descent
+pub mod Tests
+pub mod TypeInstances
+pub mod TypesUnify
+pub mod Stacks

@@ -1,0 +1,4 @@
+pub mod Descent
+pub mod TypeUnification
+pub mod TypeStacks
+pub mod Matching

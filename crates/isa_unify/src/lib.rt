@@ -1,0 +1,6 @@
+//! Unification of types, matching of patterns, and unification of patterns.
+#![tactic(auto)]
+
+mod types;
+
+pub use types::{TypePair, unify_type_pairs};
