@@ -3,3 +3,4 @@ pub mod Equal
 pub mod Bare
 pub mod Steps
 pub mod Entries
+pub mod Counts

@@ -19,4 +19,5 @@ pub mod Generalize
 pub mod Norm
 pub mod Cost
 pub mod Normal
+pub mod Order
 pub mod Rows
