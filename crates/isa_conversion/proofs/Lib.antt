@@ -13,3 +13,5 @@ pub mod Names
 pub mod Laws
 pub mod Instances
 pub mod Composing
+pub mod Renames
+pub mod Opening
