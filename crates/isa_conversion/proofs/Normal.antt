@@ -89,7 +89,7 @@ raise_head n k (Unknown x i T) h = tt
 raise_head n k (Abs x T b) h = absurd h
 raise_head n k (App f a) h = tt
 
-raise_normal : (n k : ℕ) (t : Tm) → IsNormal t → IsNormal (raise n k t)
+pub raise_normal : (n k : ℕ) (t : Tm) → IsNormal t → IsNormal (raise n k t)
 raise_normal n k (Const x T) h = tt
 raise_normal n k (Free x T) h = tt
 raise_normal n k (Unknown x i T) h = tt
@@ -179,7 +179,7 @@ height_pos (TyUnknown x i) = omega arith
 one_more : (n : ℕ) → suc n ≡ n + 1
 one_more n = omega arith
 
-apply_head : (m : ℕ) (f a : Tm) → IsHead f → apply m f a ≡ App f a
+pub apply_head : (m : ℕ) (f a : Tm) → IsHead f → apply m f a ≡ App f a
 apply_head zero f a h = refl
 apply_head (suc m) (Abs x T b) a h = absurd h
 apply_head (suc m) (Const x T) a h = refl
