@@ -17,3 +17,4 @@ pub mod Renames
 pub mod Opening
 pub mod Heads
 pub mod Loose
+pub mod RenamedNormal
