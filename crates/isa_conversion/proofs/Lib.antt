@@ -13,3 +13,8 @@ pub mod Names
 pub mod Laws
 pub mod Instances
 pub mod Composing
+pub mod Renames
+pub mod Opening
+pub mod Heads
+pub mod Loose
+pub mod RenamedNormal
