@@ -4,13 +4,16 @@ use Rattle.isa_terms.specs.Types.{Ty}
 use Rattle.isa_terms.specs.Terms.{Tm, Abs, App, bare}
 use Rattle.isa_terms.specs.Replace.{replace}
 use Rattle.isa_terms.specs.Norm.{norm}
-use Rattle.isa_conversion.specs.Laws.{TypesAreGiven, NormalFormsAreNormal, NormalTermsStay, NormalisingIsIdempotent, TermsConvertToNormalForms, NormalFormsAreUnique, ApplicationIsReplacement}
+use Rattle.isa_conversion.specs.Laws.{TypesAreGiven, NormalFormsAreNormal, NormalTermsStay, NormalisingIsIdempotent, TermsConvertToNormalForms, NormalFormsAreUnique, ApplicationIsReplacement, InstancesKeepTypes, InstancesKeepConversion, InstancesOfNormalForms, InstancesCompose, InstancesHaveComposites}
 use Rattle.isa_conversion.specs.Typed.{Typed, TAbs, TApp}
 use Rattle.isa_conversion.specs.Conversion.{Conv, CBeta}
 use Rattle.isa_conversion.proofs.Typed.{typed_of_type, type_of_typed}
 use Rattle.isa_conversion.proofs.Conv.{right_typed, norm_conv}
 use Rattle.isa_conversion.proofs.Normal.{norm_normal, norm_same}
 use Rattle.isa_conversion.proofs.Names.{norm_same_conv}
+use Rattle.isa_conversion.specs.Instances.{all_after}
+use Rattle.isa_conversion.proofs.Instances.{inst_typed, inst_conv, inst_norm}
+use Rattle.isa_conversion.proofs.Composing.{followed_norm, after_kept, all_are_after, all_followed}
 use Rattle.isa_conversion.proofs.Unique.{conv_norm}
 
 pub types_are_given_law : TypesAreGiven
@@ -44,3 +47,18 @@ beta_norm d = conv_norm (beta_conv d)
 
 pub application_is_replacement_law : ApplicationIsReplacement
 application_is_replacement_law x S T b a h = beta_norm (typed_of_type [] (App (Abs x S b) a) T h)
+
+pub instances_keep_types_law : InstancesKeepTypes
+instances_keep_types_law es fs G t T k d = inst_typed es fs k d
+
+pub instances_keep_conversion_law : InstancesKeepConversion
+instances_keep_conversion_law es fs G T t u k c = inst_conv es fs k c
+
+pub instances_of_normal_forms_law : InstancesOfNormalForms
+instances_of_normal_forms_law es fs t T k h = inst_norm es fs k (typed_of_type [] t T h)
+
+pub instances_compose_law : InstancesCompose
+instances_compose_law es fs es1 fs1 es2 fs2 t T k k1 k2 h f = followed_norm es fs es1 fs1 es2 fs2 k k1 k2 (typed_of_type [] t T h) f
+
+pub instances_have_composites_law : InstancesHaveComposites
+instances_have_composites_law es1 fs1 es2 fs2 ts k1 k2 = (after_kept es1 fs1 es2 fs2 k1 k2 (all_after es1 fs1 es2 fs2 ts) (all_are_after es1 fs1 es2 fs2 ts), all_followed es1 fs1 es2 fs2 k1 k2 ts)

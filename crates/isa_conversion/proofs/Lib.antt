@@ -11,3 +11,7 @@ pub mod Erasing
 pub mod Unique
 pub mod Names
 pub mod Laws
+pub mod Instances
+pub mod Composing
+pub mod Renames
+pub mod Opening

@@ -3,6 +3,7 @@
 
 ghost use Rattle.isa_conversion.specs.Laws.{TypesAreGiven, NormalFormsAreNormal, NormalTermsStay, NormalisingIsIdempotent};
 ghost use Rattle.isa_conversion.specs.Laws.{TermsConvertToNormalForms, NormalFormsAreUnique, ApplicationIsReplacement};
+ghost use Rattle.isa_conversion.specs.Laws.{InstancesKeepTypes, InstancesKeepConversion, InstancesOfNormalForms, InstancesCompose, InstancesHaveComposites};
 
 /// The type that a term's parts give it is the one that the rules of typing give it.
 #[tactic(auto, using(crate::proofs::Laws::types_are_given_law))]
@@ -44,4 +45,35 @@ pub fn normal_forms_are_unique()
 #[tactic(auto, using(crate::proofs::Laws::application_is_replacement_law))]
 pub fn application_is_replacement()
     ensures { ApplicationIsReplacement }
+{}
+
+/// An instance that keeps types gives a well-typed term a well-typed one, of the type's instance.
+#[tactic(auto, using(crate::proofs::Laws::instances_keep_types_law))]
+pub fn instances_keep_types()
+    ensures { InstancesKeepTypes }
+{}
+
+/// Convertible terms have convertible instances.
+#[tactic(auto, using(crate::proofs::Laws::instances_keep_conversion_law))]
+pub fn instances_keep_conversion()
+    ensures { InstancesKeepConversion }
+{}
+
+/// Normalising before an instance does not change the normal form of the instance.
+#[tactic(auto, using(crate::proofs::Laws::instances_of_normal_forms_law))]
+pub fn instances_of_normal_forms()
+    ensures { InstancesOfNormalForms }
+{}
+
+/// An instance that does on a term's types and unknowns what two instances do in turn, does so on
+/// the term.
+#[tactic(auto, using(crate::proofs::Laws::instances_compose_law))]
+pub fn instances_compose()
+    ensures { InstancesCompose }
+{}
+
+/// For two instances there is one that does on given terms what they do in turn.
+#[tactic(auto, using(crate::proofs::Laws::instances_have_composites_law))]
+pub fn instances_have_composites()
+    ensures { InstancesHaveComposites }
 {}
