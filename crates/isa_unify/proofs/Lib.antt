@@ -3,3 +3,4 @@ pub mod Tests
 pub mod TypeInstances
 pub mod TypesUnify
 pub mod Stacks
+pub mod TypeMatches

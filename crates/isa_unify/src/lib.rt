@@ -1,6 +1,7 @@
 //! Unification of types, matching of patterns, and unification of patterns.
 #![tactic(auto)]
 
+mod binders;
 mod types;
 
 pub use types::{TypePair, unify_type_pairs};
