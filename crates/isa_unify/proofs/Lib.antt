@@ -3,3 +3,7 @@ pub mod Tests
 pub mod TypeInstances
 pub mod TypesUnify
 pub mod Stacks
+pub mod Unknowns
+pub mod Measure
+pub mod Assigned
+pub mod Adequacy
