@@ -2,3 +2,5 @@ pub mod Types
 pub mod Equal
 pub mod Bare
 pub mod Steps
+pub mod Entries
+pub mod Counts

@@ -1,6 +1,5 @@
 -- One step of an application.
-use Rattle.std.proofs.Common.{◌≡◌, ◌≢◌, ℕ, List, zero, suc, ◌-◌, refl, sym, ap, ◌∙◌, arith}
-use Rattle.std.proofs.Math.Numerals.{sub-one}
+use Rattle.std.proofs.Common.{◌≡◌, ◌≢◌, ℕ, List, zero, suc, ◌-◌, refl, sym, ap, arith}
 use Rattle.isa_terms.specs.Types.{Ty}
 use Rattle.isa_terms.specs.Terms.{Tm, Abs}
 use Rattle.isa_terms.specs.Norm.{put_normal, apply}

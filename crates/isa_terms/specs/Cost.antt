@@ -1,6 +1,6 @@
 -- How many calls normalising takes, a number that falls from call to call.
 use Rattle.std.specs.Prelude.{ℕ, zero, suc, ◌+◌}
-use Rattle.isa_terms.specs.Terms.{Tm, Const, Free, Unknown, Bound, Abs, App}
+use Rattle.isa_terms.specs.Terms.{Tm, Abs, App}
 use Rattle.isa_terms.specs.Norm.{put_normal, apply}
 
 abbrev pub put_cost : (Tm → Tm → Tm) → (Tm → Tm → ℕ) → Tm → ℕ → Tm → ℕ

@@ -13,9 +13,11 @@ pub mod Context
 pub mod Sets
 pub mod Binding
 pub mod Instance
+pub mod Entries
 pub mod EntryCodes
 pub mod Generalize
 pub mod Norm
 pub mod Cost
 pub mod Normal
+pub mod Order
 pub mod Rows

@@ -1,6 +1,6 @@
 -- What a normal form is.
 use Rattle.std.specs.Prelude.{◌≡◌, nat_eq, Bool, false, not, ◌&&◌}
-use Rattle.isa_terms.specs.Terms.{Tm, Const, Free, Unknown, Bound, Abs, App}
+use Rattle.isa_terms.specs.Terms.{Tm, Bound, Abs, App}
 use Rattle.isa_terms.specs.Norm.{loose}
 
 -- whether the body of an abstraction is `f x`, x not in f

@@ -1,8 +1,8 @@
 -- Worked examples.
-use Rattle.std.specs.Prelude.{◌≡◌, ℕ, List, [], ◌∷◌, codes, refl}
+use Rattle.std.specs.Prelude.{◌≡◌, ℕ, List, codes, refl}
 use Rattle.isa_terms.specs.Types.{Ty, TyCon, NoTys}
 use Rattle.isa_terms.specs.Typing.{function_of}
-use Rattle.isa_terms.specs.Terms.{Tm, Const, Free, Unknown, Bound, Abs, App}
+use Rattle.isa_terms.specs.Terms.{Const, Free, Bound, Abs, App}
 use Rattle.isa_terms.specs.Norm.{norm}
 
 abbrev i : Ty

@@ -1,5 +1,6 @@
 ghost use Rattle.std.specs.Prelude.{◌≡◌, [], IfOk, OnOk, OnErr};
-ghost use Rattle.isa_terms.specs.Instance.{Instance, set_type, set_term, instance_of, TypesOnce, TermsOnce};
+ghost use Rattle.isa_terms.specs.Entries.{Once};
+ghost use Rattle.isa_terms.specs.Instance.{Instance, set_type, set_term, instance_of, same_type_unknown, same_unknown};
 
 use crate::inst::{TermEntry, TypeEntry, inst_term};
 use crate::lists::{TermEntries, TypeEntries};
@@ -18,7 +19,8 @@ pub struct Inst {
 }
 
 impl Model for Inst {
-    ghost use Rattle.isa_terms.specs.Instance.{Instance, TypesOnce, TermsOnce};
+    ghost use Rattle.isa_terms.specs.Instance.{Instance, same_type_unknown, same_unknown};
+    ghost use Rattle.isa_terms.specs.Entries.{Once};
     ghost use Rattle.isa_terms.specs.EntryCodes.{coded_instance};
 
     ghost Value = { Instance };
@@ -27,7 +29,7 @@ impl Model for Inst {
 
     ghost view = { λ a. record { types = a.types; terms = a.terms } };
 
-    ghost invariant = { λ a. TypesOnce a.types × TermsOnce a.terms };
+    ghost invariant = { λ a. Once same_type_unknown a.types × Once same_unknown a.terms };
 }
 
 impl Inst {
@@ -49,7 +51,7 @@ impl Inst {
         number: u32,
         typ: Typ,
     ) -> Result<(), AllocError>
-        ensures ok { OnOk result (self.new ≡ record { types = set_type name number typ self.old.types; terms = self.old.terms }) }
+        ensures ok { OnOk result (self.new ≡ record { types = set_type (record { name = name; number = number; typ = typ }) self.old.types; terms = self.old.terms }) }
         ensures err { OnErr result (self.new ≡ self.old) }
     {
         self.types.put(TypeEntry { name, number, typ })
@@ -64,7 +66,7 @@ impl Inst {
         typ: Typ,
         term: Term,
     ) -> Result<(), AllocError>
-        ensures ok { OnOk result (self.new ≡ record { types = self.old.types; terms = set_term name number typ term self.old.terms }) }
+        ensures ok { OnOk result (self.new ≡ record { types = self.old.types; terms = set_term (record { name = name; number = number; typ = typ; term = term }) self.old.terms }) }
         ensures err { OnErr result (self.new ≡ self.old) }
     {
         self.terms.put(TermEntry {
@@ -78,7 +80,7 @@ impl Inst {
     /// The types for type unknowns, one for each.
     pub fn types(&self) -> &TypeEntries
         ensures all { result.now ≡ self.now.types }
-        ensures once { TypesOnce result.now }
+        ensures once { Once same_type_unknown result.now }
     {
         &self.types
     }
@@ -86,7 +88,7 @@ impl Inst {
     /// The terms for unknowns, one for each.
     pub fn terms(&self) -> &TermEntries
         ensures all { result.now ≡ self.now.terms }
-        ensures once { TermsOnce result.now }
+        ensures once { Once same_unknown result.now }
     {
         &self.terms
     }

@@ -1,10 +1,10 @@
 ghost use Rattle.std.specs.Prelude.{◌≡◌, ◌<◌, [], ◌∷◌, ◌++◌, length, slice_get, slice_index, OnOk, OnErr};
-ghost use Rattle.isa_terms.specs.Instance.{set_type, set_term, type_place, term_place};
+ghost use Rattle.isa_terms.specs.Entries.{first_place};
+ghost use Rattle.isa_terms.specs.Instance.{set_type, set_term, same_type_unknown, same_unknown};
 
 use crate::inst::{TermEntry, TypeEntry};
 use crate::name::Name;
 use crate::same::same_typ;
-use crate::typ::Typ;
 use std::alloc::{AllocError, Global};
 use std::marker::Model;
 
@@ -227,12 +227,12 @@ impl TermEntries {
 }
 
 impl TypeEntries {
-    /// Where the entry for the type unknown stands.
-    fn place_of(&self, name: &Name, number: u32) -> Option<usize>
-        ensures { result ≡ type_place 0 name.now number self.now }
+    /// Where the entry for the same type unknown stands.
+    fn place_of(&self, entry: &TypeEntry) -> Option<usize>
+        ensures { result ≡ first_place (same_type_unknown entry.now) 0 self.now }
     {
-        for (place, entry) in self.items.iter().enumerate() {
-            if name.same(&entry.name) && number == entry.number {
+        for (place, other) in self.items.iter().enumerate() {
+            if entry.name.same(&other.name) && entry.number == other.number {
                 return Some(place);
             }
         }
@@ -240,11 +240,12 @@ impl TypeEntries {
     }
 
     /// Sets the entry for a type unknown.
+    #[tactic(auto, using(crate::proofs::Entries::set_last, crate::proofs::Entries::place_within, crate::proofs::Entries::set_at_place))]
     pub fn put(&mut self, entry: TypeEntry) -> Result<(), AllocError>
-        ensures ok { OnOk result (self.new ≡ set_type entry.name entry.number entry.typ self.old) }
+        ensures ok { OnOk result (self.new ≡ set_type entry self.old) }
         ensures err { OnErr result (self.new ≡ self.old) }
     {
-        match self.place_of(&entry.name, entry.number) {
+        match self.place_of(&entry) {
             Some(place) => self.items[place] = entry,
             None => self.items.push(entry)?,
         }
@@ -253,12 +254,15 @@ impl TypeEntries {
 }
 
 impl TermEntries {
-    /// Where the entry for the unknown stands.
-    fn place_of(&self, name: &Name, number: u32, typ: &Typ) -> Option<usize>
-        ensures { result ≡ term_place 0 name.now number typ.now self.now }
+    /// Where the entry for the same unknown stands.
+    fn place_of(&self, entry: &TermEntry) -> Option<usize>
+        ensures { result ≡ first_place (same_unknown entry.now) 0 self.now }
     {
-        for (place, entry) in self.items.iter().enumerate() {
-            if name.same(&entry.name) && number == entry.number && same_typ(typ, &entry.typ) {
+        for (place, other) in self.items.iter().enumerate() {
+            if entry.name.same(&other.name)
+                && entry.number == other.number
+                && same_typ(&entry.typ, &other.typ)
+            {
                 return Some(place);
             }
         }
@@ -266,11 +270,12 @@ impl TermEntries {
     }
 
     /// Sets the entry for an unknown.
+    #[tactic(auto, using(crate::proofs::Entries::set_last, crate::proofs::Entries::place_within, crate::proofs::Entries::set_at_place))]
     pub fn put(&mut self, entry: TermEntry) -> Result<(), AllocError>
-        ensures ok { OnOk result (self.new ≡ set_term entry.name entry.number entry.typ entry.term self.old) }
+        ensures ok { OnOk result (self.new ≡ set_term entry self.old) }
         ensures err { OnErr result (self.new ≡ self.old) }
     {
-        match self.place_of(&entry.name, entry.number, &entry.typ) {
+        match self.place_of(&entry) {
             Some(place) => self.items[place] = entry,
             None => self.items.push(entry)?,
         }
