@@ -2,6 +2,9 @@
 #![tactic(auto)]
 
 mod binders;
+mod equation;
+mod numbers;
+mod progress;
 mod types;
 
 pub use types::{TypePair, unify_type_pairs};
