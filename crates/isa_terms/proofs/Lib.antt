@@ -4,3 +4,4 @@ pub mod Bare
 pub mod Steps
 pub mod Entries
 pub mod Counts
+pub mod Ordered

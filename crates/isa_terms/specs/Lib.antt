@@ -21,3 +21,4 @@ pub mod Cost
 pub mod Normal
 pub mod Order
 pub mod Rows
+pub mod Laws
