@@ -18,3 +18,4 @@ pub mod Opening
 pub mod Heads
 pub mod Loose
 pub mod RenamedNormal
+pub mod Abstracting
