@@ -20,5 +20,6 @@ pub mod Norm
 pub mod Cost
 pub mod Normal
 pub mod Order
+pub mod Pattern
 pub mod Rows
 pub mod Laws
