@@ -21,5 +21,6 @@ pub mod Cost
 pub mod Normal
 pub mod Order
 pub mod Pattern
+pub mod Facts
 pub mod Rows
 pub mod Laws

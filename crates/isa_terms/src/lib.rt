@@ -2,6 +2,7 @@
 #![tactic(auto)]
 
 mod binding;
+mod facts;
 mod generalize;
 mod inst;
 mod instance;
