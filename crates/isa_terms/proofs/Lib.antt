@@ -5,3 +5,4 @@ pub mod Steps
 pub mod Entries
 pub mod Counts
 pub mod Ordered
+pub mod Shared

@@ -2,6 +2,7 @@
 #![tactic(auto)]
 
 mod binding;
+mod facts;
 mod generalize;
 mod inst;
 mod instance;
@@ -11,6 +12,7 @@ mod measure;
 mod name;
 mod normal;
 mod order;
+mod pattern;
 mod replace;
 mod same;
 mod term;
@@ -28,6 +30,7 @@ pub use measure::size;
 pub use name::Name;
 pub use normal::{height, norm};
 pub use order::{compare_terms, head};
+pub use pattern::{distinct_args, is_pattern};
 pub use replace::{put_at, raised, replaced};
 pub use same::{same_term, same_typ};
 pub use term::{Term, TermNode};
