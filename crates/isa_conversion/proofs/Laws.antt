@@ -1,5 +1,5 @@
 -- The laws of conversion and of normal forms.
-use Rattle.std.proofs.Common.{◌≡◌, ℕ, List, []}
+use Rattle.std.proofs.Common.{◌≡◌, ℕ, List, [], ◌∷◌}
 use Rattle.isa_terms.specs.Types.{Ty}
 use Rattle.isa_terms.specs.Terms.{Tm, Abs, App, bare}
 use Rattle.isa_terms.specs.Replace.{replace}
