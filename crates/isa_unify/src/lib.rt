@@ -2,6 +2,8 @@
 #![tactic(auto)]
 
 mod binders;
+mod lookup;
+mod matching;
 mod types;
 
 pub use types::{TypePair, unify_type_pairs};
