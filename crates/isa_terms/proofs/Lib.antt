@@ -4,3 +4,5 @@ pub mod Bare
 pub mod Steps
 pub mod Entries
 pub mod Counts
+pub mod Ordered
+pub mod Shared
