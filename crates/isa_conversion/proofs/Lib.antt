@@ -15,3 +15,7 @@ pub mod Instances
 pub mod Composing
 pub mod Renames
 pub mod Opening
+pub mod Heads
+pub mod Loose
+pub mod RenamedNormal
+pub mod Abstracting

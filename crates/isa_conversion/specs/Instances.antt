@@ -2,7 +2,7 @@
 use Rattle.std.specs.Prelude.{◌≡◌, List, [], ◌∷◌, ◌++◌}
 use Rattle.isa_terms.specs.Terms.{Tm, Const, Free, Unknown, Bound, Abs, App, bare}
 use Rattle.isa_terms.specs.Typing.{HasType}
-use Rattle.isa_terms.specs.Instance.{inst_ty, inst_tm}
+use Rattle.isa_terms.specs.Instance.{Instance, inst_ty, inst_tm}
 use Rattle.isa_terms.specs.Norm.{norm}
 use Rattle.isa_terms.specs.declared.inst.TypeEntry.{TypeEntry}
 use Rattle.isa_terms.specs.declared.inst.TermEntry.{TermEntry}
@@ -43,3 +43,11 @@ all_after es1 fs1 es2 fs2 (t ∷ ts) = terms_after es1 fs1 es2 fs2 t ++ all_afte
 abbrev pub Each : (Tm → Type 0) → List Tm → Type 0
 Each P [] = Unit {0}
 Each P (t ∷ ts) = P t × Each P ts
+
+-- its terms have the types of their unknowns
+abbrev pub KeepsTypes : Instance → Type 0
+KeepsTypes s = IsKept s.types s.terms
+
+-- s and then r, as one instance of the terms ts
+abbrev pub followed_by : Instance → Instance → List Tm → Instance
+followed_by s r ts = record { types = types_after s.types r.types; terms = all_after s.types s.terms r.types r.terms ts }

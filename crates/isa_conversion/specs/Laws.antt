@@ -4,14 +4,14 @@ use Rattle.isa_terms.specs.Types.{Ty}
 use Rattle.isa_terms.specs.Terms.{Tm, Abs, App, bare}
 use Rattle.isa_terms.specs.Typing.{HasType, type_at}
 use Rattle.isa_terms.specs.Replace.{replace}
-use Rattle.isa_terms.specs.Instance.{inst_ty, inst_tm}
+use Rattle.isa_terms.specs.Instance.{Instance, inst_ty, inst_tm, instance_of}
 use Rattle.isa_terms.specs.declared.inst.TypeEntry.{TypeEntry}
 use Rattle.isa_terms.specs.declared.inst.TermEntry.{TermEntry}
 use Rattle.isa_terms.specs.Norm.{norm}
 use Rattle.isa_terms.specs.Normal.{IsNormal}
 use Rattle.isa_conversion.specs.Typed.{Typed}
 use Rattle.isa_conversion.specs.Conversion.{Conv}
-use Rattle.isa_conversion.specs.Instances.{IsKept, IsFollowed, types_after, all_after, Each}
+use Rattle.isa_conversion.specs.Instances.{IsKept, IsFollowed, KeepsTypes, followed_by, Each}
 
 -- the type that a term is given by its parts is the one that the rules of typing give it
 abbrev pub TypesAreGiven : Type 0
@@ -53,15 +53,15 @@ InstancesKeepConversion = (es : List TypeEntry) (fs : List TermEntry) (G : List 
 abbrev pub InstancesOfNormalForms : Type 0
 InstancesOfNormalForms = (es : List TypeEntry) (fs : List TermEntry) (t : Tm) (T : Ty) → IsKept es fs → HasType t T → bare (norm (inst_tm es fs (norm t))) ≡ bare (norm (inst_tm es fs t))
 
--- an instance that does on the term's types and unknowns what the first and then the second do, does so on the term
-abbrev pub InstancesCompose : Type 0
-InstancesCompose =
+-- an instance that does on each type and unknown of a term what the first and then the second do, does so on the term
+abbrev pub InstancesComposeByParts : Type 0
+InstancesComposeByParts =
     (es : List TypeEntry) (fs : List TermEntry) (es1 : List TypeEntry) (fs1 : List TermEntry) (es2 : List TypeEntry) (fs2 : List TermEntry) (t : Tm) (T : Ty) →
     IsKept es fs → IsKept es1 fs1 → IsKept es2 fs2 → HasType t T → IsFollowed es fs es1 fs1 es2 fs2 t →
     bare (norm (inst_tm es fs t)) ≡ bare (norm (inst_tm es2 fs2 (norm (inst_tm es1 fs1 t))))
 
--- for two instances that keep types and for any terms there is one instance that is the first and then the second on them, and it keeps types
-abbrev pub InstancesHaveComposites : Type 0
-InstancesHaveComposites =
-    (es1 : List TypeEntry) (fs1 : List TermEntry) (es2 : List TypeEntry) (fs2 : List TermEntry) (ts : List Tm) → IsKept es1 fs1 → IsKept es2 fs2 →
-    IsKept (types_after es1 es2) (all_after es1 fs1 es2 fs2 ts) × Each (λ t. IsFollowed (types_after es1 es2) (all_after es1 fs1 es2 fs2 ts) es1 fs1 es2 fs2 t) ts
+-- one instance and then another are one instance of given terms, which keeps types where both do
+abbrev pub InstancesCompose : Type 0
+InstancesCompose =
+    (s r : Instance) (ts : List Tm) → KeepsTypes s → KeepsTypes r →
+    KeepsTypes (followed_by s r ts) × Each (λ t. (T : Ty) → HasType t T → bare (instance_of (followed_by s r ts) t) ≡ bare (instance_of r (instance_of s t))) ts

@@ -3,7 +3,7 @@
 
 ghost use Rattle.isa_conversion.specs.Laws.{TypesAreGiven, NormalFormsAreNormal, NormalTermsStay, NormalisingIsIdempotent};
 ghost use Rattle.isa_conversion.specs.Laws.{TermsConvertToNormalForms, NormalFormsAreUnique, ApplicationIsReplacement};
-ghost use Rattle.isa_conversion.specs.Laws.{InstancesKeepTypes, InstancesKeepConversion, InstancesOfNormalForms, InstancesCompose, InstancesHaveComposites};
+ghost use Rattle.isa_conversion.specs.Laws.{InstancesKeepTypes, InstancesKeepConversion, InstancesOfNormalForms, InstancesComposeByParts, InstancesCompose};
 
 /// The type that a term's parts give it is the one that the rules of typing give it.
 #[tactic(auto, using(crate::proofs::Laws::types_are_given_law))]
@@ -65,15 +65,15 @@ pub fn instances_of_normal_forms()
     ensures { InstancesOfNormalForms }
 {}
 
-/// An instance that does on a term's types and unknowns what two instances do in turn, does so on
-/// the term.
+/// An instance that does on each type and unknown of a term what two instances do in turn, does so
+/// on the term.
+#[tactic(auto, using(crate::proofs::Laws::instances_compose_by_parts_law))]
+pub fn instances_compose_by_parts()
+    ensures { InstancesComposeByParts }
+{}
+
+/// One instance and then another are one instance of given terms, which keeps types where both do.
 #[tactic(auto, using(crate::proofs::Laws::instances_compose_law))]
 pub fn instances_compose()
     ensures { InstancesCompose }
-{}
-
-/// For two instances there is one that does on given terms what they do in turn.
-#[tactic(auto, using(crate::proofs::Laws::instances_have_composites_law))]
-pub fn instances_have_composites()
-    ensures { InstancesHaveComposites }
 {}

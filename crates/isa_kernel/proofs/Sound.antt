@@ -23,19 +23,19 @@ pub cond_none : {A : Type 0} (b : Bool) (o : Option A) {y : A} → cond b None o
 cond_none true o e = cc
 cond_none false o e = (refl, e)
 
-typed_as_is : (r : Result Ty IllTyped) (T : Ty) → typed_as r T ≡ true → r ≡ Ok T
+pub typed_as_is : (r : Result Ty IllTyped) (T : Ty) → typed_as r T ≡ true → r ≡ Ok T
 typed_as_is (Ok S) T e = ap Ok ((ty_decides S T).0 e)
 typed_as_is (Err fault) T e = cc
 
 pub has_type_is : (t : Tm) (T : Ty) → has_type t T ≡ true → HasType t T
 has_type_is t T e = typed_as_is (type_at [] t) T e
 
-well_typed_is : (r : Result Ty IllTyped) (T : Ty) → well_typed r ≡ Some T → r ≡ Ok T
+pub well_typed_is : (r : Result Ty IllTyped) (T : Ty) → well_typed r ≡ Some T → r ≡ Ok T
 well_typed_is (Ok S) T e = cc
 well_typed_is (Err fault) T e = cc
 
 -- the theorem that a Some holds
-derived_some : {th wanted : Theorem} → Some th ≡ Some wanted → IsDerived th → IsDerived wanted
+pub derived_some : {th wanted : Theorem} → Some th ≡ Some wanted → IsDerived th → IsDerived wanted
 derived_some e d = subst (λ x. IsDerived x) (cc (e)) d
 
 pub assumed_sound : (a : Tm) (th : Theorem) → assumed a ≡ Some th → IsDerived th
@@ -76,7 +76,7 @@ turned_sound b th e d =
     let p = bind_some (eq_parts b.prop) _ e in
     derived_some p.2 (record { derivation = turned_derived b.prop p.0.0 p.0.1 p.0.2 b.base b.hyps p.1 d.derivation })
 
-and_true : (a b : Bool) → (a && b) ≡ true → (a ≡ true) × (b ≡ true)
+pub and_true : (a b : Bool) → (a && b) ≡ true → (a ≡ true) × (b ≡ true)
 and_true true b e = (refl, e)
 and_true false b e = cc
 

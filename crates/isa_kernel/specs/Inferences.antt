@@ -15,6 +15,7 @@ use Rattle.isa_terms.specs.Sets.{joined, without}
 use Rattle.isa_terms.specs.declared.typing.IllTyped.{IllTyped}
 use Rattle.isa_kernel.specs.Logic.{prop, imp, eq, all}
 use Rattle.isa_kernel.specs.Forms.{◌>>=◌, app_parts, abs_parts, is_last, imp_parts, eq_parts, all_parts, free_parts}
+use Rattle.isa_kernel.specs.Axioms.{joined_bases}
 use Rattle.isa_kernel.specs.Theorem.{Theorem}
 use Rattle.isa_kernel.specs.declared.inference.InferenceError.{InferenceError}
 use Rattle.isa_kernel.specs.declared.inference.InferenceError.TheVariants.{Shape, Memory}
@@ -63,7 +64,7 @@ implies_introduced a th = if has_type a prop then Some (record { hyps = without 
 abbrev pub implies_eliminated : Theorem → Theorem → Option Theorem
 implies_eliminated ab a = do
   parts ← imp_parts ab.prop
-  if tm_eq parts.0 a.prop then Some (record { hyps = joined ab.hyps a.hyps; prop = parts.1; base = joined ab.base a.base }) else None
+  if tm_eq parts.0 a.prop then Some (record { hyps = joined ab.hyps a.hyps; prop = parts.1; base = joined_bases ab.base a.base }) else None
 
 -- `!!x. B`, for a free variable x that is not in the hypotheses
 abbrev pub forall_introduced : Tm → Theorem → Option Theorem
@@ -94,7 +95,7 @@ abbrev pub chained : Theorem → Theorem → Option Theorem
 chained a b = do
   left ← eq_parts a.prop
   right ← eq_parts b.prop
-  if ty_eq left.0 right.0 && tm_eq left.2 right.1 then Some (record { hyps = joined a.hyps b.hyps; prop = eq left.0 left.1 right.2; base = joined a.base b.base }) else None
+  if ty_eq left.0 right.0 && tm_eq left.2 right.1 then Some (record { hyps = joined a.hyps b.hyps; prop = eq left.0 left.1 right.2; base = joined_bases a.base b.base }) else None
 
 -- `f a == g b`, from `f == g` and `a == b` whose types fit
 abbrev pub combined : Theorem → Theorem → Option Theorem
@@ -102,7 +103,7 @@ combined f a = do
   funs ← eq_parts f.prop
   args ← eq_parts a.prop
   types ← function_parts funs.0
-  if ty_eq types.0 args.0 then Some (record { hyps = joined f.hyps a.hyps; prop = eq types.1 (App funs.1 args.1) (App funs.2 args.2); base = joined f.base a.base }) else None
+  if ty_eq types.0 args.0 then Some (record { hyps = joined f.hyps a.hyps; prop = eq types.1 (App funs.1 args.1) (App funs.2 args.2); base = joined_bases f.base a.base }) else None
 
 -- `(%x. t) == (%x. u)`, from `t == u` for a free variable x that is not in the hypotheses
 abbrev pub abstracted : Tm → Theorem → Option Theorem
@@ -133,13 +134,13 @@ abbrev pub equal_introduced : Theorem → Theorem → Option Theorem
 equal_introduced ab ba = do
   there ← imp_parts ab.prop
   back ← imp_parts ba.prop
-  if tm_eq there.0 back.1 && tm_eq there.1 back.0 then Some (record { hyps = joined ab.hyps ba.hyps; prop = eq prop there.0 there.1; base = joined ab.base ba.base }) else None
+  if tm_eq there.0 back.1 && tm_eq there.1 back.0 then Some (record { hyps = joined ab.hyps ba.hyps; prop = eq prop there.0 there.1; base = joined_bases ab.base ba.base }) else None
 
 -- B, from `A == B` and A
 abbrev pub equal_eliminated : Theorem → Theorem → Option Theorem
 equal_eliminated e a = do
   parts ← eq_parts e.prop
-  if ty_eq parts.0 prop && tm_eq parts.1 a.prop then Some (record { hyps = joined e.hyps a.hyps; prop = parts.2; base = joined e.base a.base }) else None
+  if ty_eq parts.0 prop && tm_eq parts.1 a.prop then Some (record { hyps = joined e.hyps a.hyps; prop = parts.2; base = joined_bases e.base a.base }) else None
 
 -- whether each term has the instance of the type of its unknown, and no loose bound variables
 abbrev pub keeps : List TypeEntry → List TermEntry → Bool

@@ -1,15 +1,19 @@
 //! Theorems, which only the inferences make.
 #![tactic(auto)]
 
+mod axioms;
 mod form;
 mod inference;
 mod laws;
+mod names;
 mod thm;
 mod thms;
 
+pub use axioms::{Axioms, NamedProp};
 pub use form::{make_all, make_eq, make_imp, prop_type, split_all, split_eq, split_imp};
 pub use inference::InferenceError;
 pub use laws::{derived_are_propositions, normal_forms_are_derived};
+pub use names::Names;
 pub use thm::{
     Thm, abstract_rule, assume, beta, combination, equal_elim, equal_intr, eta, forall_elim,
     forall_intr, generalize, implies_elim, implies_intr, instantiate_thm, reflexive, symmetric,

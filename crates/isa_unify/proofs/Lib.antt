@@ -4,3 +4,7 @@ pub mod TypeInstances
 pub mod TypesUnify
 pub mod Stacks
 pub mod TypeMatches
+pub mod Unknowns
+pub mod Measure
+pub mod Assigned
+pub mod Adequacy

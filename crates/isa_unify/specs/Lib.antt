@@ -3,3 +3,7 @@ pub mod TypeUnification
 pub mod TypeStacks
 pub mod Matching
 pub mod BinderLists
+pub mod VariableCodes
+pub mod EquationCodes
+pub mod Spines
+pub mod Unification

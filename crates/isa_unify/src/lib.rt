@@ -4,6 +4,9 @@
 mod binders;
 mod lookup;
 mod matching;
+mod equation;
+mod numbers;
+mod progress;
 mod types;
 
 pub use types::{TypePair, unify_type_pairs};
