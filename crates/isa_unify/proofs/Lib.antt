@@ -8,3 +8,4 @@ pub mod Unknowns
 pub mod Measure
 pub mod Assigned
 pub mod Adequacy
+pub mod Flexible

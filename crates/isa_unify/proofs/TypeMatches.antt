@@ -25,7 +25,7 @@ swapped false false u v w h = refl
 
 pub find_set : (e : TypeEntry) (s : List TypeEntry) (x : List ℕ) (i : ℕ) → find_type x i (set_type e s) ≡ cond (name_eq x e.name && nat_eq i e.number) (Some e.typ) (find_type x i s)
 find_set e [] x i = refl
-find_set e (d ∷ s) x i = go (same_type_unknown e d) refl
+find_set e (d ∷ s) x i = go (find_set e s x i) (same_type_unknown e d) refl
   where
     through : (name_eq e.name d.name && nat_eq e.number d.number) ≡ true → (name_eq x d.name && nat_eq i d.number) ≡ true → (name_eq x e.name && nat_eq i e.number) ≡ true
     through h k =
@@ -39,10 +39,10 @@ find_set e (d ∷ s) x i = go (same_type_unknown e d) refl
         let c : (name_eq e.name d.name && nat_eq e.number d.number) ≡ true = subst (λ n. (name_eq e.name n && nat_eq e.number d.number) ≡ true) a.0 (subst (λ m. (name_eq e.name x && nat_eq e.number m) ≡ true) a.1 b) in
         cc
 
-    go : (c : Bool) → same_type_unknown e d ≡ c → find_type x i (cond c (e ∷ s) (d ∷ set_first (same_type_unknown e) e s)) ≡ cond (name_eq x e.name && nat_eq i e.number) (Some e.typ) (find_type x i (d ∷ s))
-    go true h = skipped (name_eq x e.name && nat_eq i e.number) (name_eq x d.name && nat_eq i d.number) (Some e.typ) (Some d.typ) (find_type x i s) (through h)
-    go false h =
-        ap (λ o. cond (name_eq x d.name && nat_eq i d.number) (Some d.typ) o) (find_set e s x i)
+    go : find_type x i (set_type e s) ≡ cond (name_eq x e.name && nat_eq i e.number) (Some e.typ) (find_type x i s) → (c : Bool) → same_type_unknown e d ≡ c → find_type x i (cond c (e ∷ s) (d ∷ set_first (same_type_unknown e) e s)) ≡ cond (name_eq x e.name && nat_eq i e.number) (Some e.typ) (find_type x i (d ∷ s))
+    go ih true h = skipped (name_eq x e.name && nat_eq i e.number) (name_eq x d.name && nat_eq i d.number) (Some e.typ) (Some d.typ) (find_type x i s) (through h)
+    go ih false h =
+        ap (λ o. cond (name_eq x d.name && nat_eq i d.number) (Some d.typ) o) ih
         ∙ swapped (name_eq x e.name && nat_eq i e.number) (name_eq x d.name && nat_eq i d.number) (Some e.typ) (Some d.typ) (find_type x i s) (clashing h)
 
 -- what es says, fs says

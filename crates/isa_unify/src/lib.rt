@@ -2,6 +2,8 @@
 #![tactic(auto)]
 
 mod binders;
+mod lookup;
+mod matching;
 mod equation;
 mod numbers;
 mod progress;
