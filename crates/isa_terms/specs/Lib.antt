@@ -19,4 +19,8 @@ pub mod Generalize
 pub mod Norm
 pub mod Cost
 pub mod Normal
+pub mod Order
+pub mod Pattern
+pub mod Facts
 pub mod Rows
+pub mod Laws

@@ -1,0 +1,11 @@
+pub mod Descent
+pub mod Tests
+pub mod TypeInstances
+pub mod TypesUnify
+pub mod Stacks
+pub mod TypeMatches
+pub mod Unknowns
+pub mod Measure
+pub mod Assigned
+pub mod Adequacy
+pub mod Flexible

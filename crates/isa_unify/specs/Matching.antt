@@ -1,0 +1,162 @@
+-- Matches of patterns (Miller; Nipkow): each unknown of a pattern is applied to distinct bound variables only.
+use Rattle.std.specs.Prelude.{◌≡◌, ℕ, ◌+◌, nat_eq, nat_lt, Bool, true, false, ◌&&◌, ◌||◌, List, [], ◌∷◌, ◌++◌, slice_get, All, Option, Some, None, is_some, option_map, Ok, Err, if◌then◌else◌}
+use Rattle.isa_terms.specs.Types.{Ty, Tys, TyCon, TyFixed, TyUnknown, NoTys, MoreTys}
+use Rattle.isa_terms.specs.Terms.{Tm, Const, Free, Unknown, Bound, Abs, App, bare}
+use Rattle.isa_terms.specs.Equal.{name_eq, ty_eq, tm_eq}
+use Rattle.isa_terms.specs.Typing.{type_at, HasType}
+use Rattle.isa_terms.specs.Replace.{raise}
+use Rattle.isa_terms.specs.Norm.{eta, norm}
+use Rattle.isa_terms.specs.Instance.{Instance, find_type, find_term, inst_ty, inst_tm, instance_of, set_type, set_term}
+use Rattle.isa_terms.specs.Normal.{IsNormal}
+use Rattle.isa_conversion.specs.Instances.{IsKept}
+use Rattle.isa_terms.specs.declared.inst.TypeEntry.{TypeEntry}
+use Rattle.isa_terms.specs.declared.inst.TermEntry.{TermEntry}
+use Rattle.isa_unify.specs.TypeUnification.{ty_has}
+
+-- what a step makes of what is there
+infixl 10 ◌>>=◌
+abbrev pub ◌>>=◌ : {A B : Type 0} → Option A → (A → Option B) → Option B
+None >>= f = None
+(Some x) >>= f = f x
+
+-- whether the type unknown stands in a type of the term
+abbrev pub has_type_unknown : List ℕ → ℕ → Tm → Bool
+has_type_unknown x i (Const c T) = ty_has x i T
+has_type_unknown x i (Free a T) = ty_has x i T
+has_type_unknown x i (Unknown y j T) = ty_has x i T
+has_type_unknown x i (Bound n) = false
+has_type_unknown x i (Abs y T b) = ty_has x i T || has_type_unknown x i b
+has_type_unknown x i (App f a) = has_type_unknown x i f || has_type_unknown x i a
+
+-- whether the unknown stands in the term at that type
+abbrev pub has_unknown : List ℕ → ℕ → Ty → Tm → Bool
+has_unknown x i T (Const c U) = false
+has_unknown x i T (Free a U) = false
+has_unknown x i T (Unknown y j U) = name_eq x y && (nat_eq i j && ty_eq T U)
+has_unknown x i T (Bound n) = false
+has_unknown x i T (Abs y U b) = has_unknown x i T b
+has_unknown x i T (App f a) = has_unknown x i T f || has_unknown x i T a
+
+-- s is defined on just the unknowns and type unknowns of p, and makes p equal to t; the unknowns of t count as constants
+pub record IsMatch (p t : Tm) (s : Instance) : Type 0 where
+  pub types : (x : List ℕ) (i : ℕ) → is_some (find_type x i s.types) ≡ has_type_unknown x i p
+  pub terms : (x : List ℕ) (i : ℕ) (T : Ty) → is_some (find_term x i T s.terms) ≡ has_unknown x i T p
+  pub kept : IsKept s.types s.terms
+  pub gives : bare (instance_of s p) ≡ bare t
+
+-- s and the types that make T to U
+abbrev mutual
+  pub ty_matched : Instance → Ty → Ty → Option Instance
+  ty_matched s (TyUnknown x i) U = elim (find_type x i s.types) [
+    | None ↦ Some (record s { types = set_type (record { name = x; number = i; typ = U }) s.types })
+    | Some V ↦ if ty_eq V U then Some s else None
+  ]
+  ty_matched s (TyFixed a) (TyFixed b) = if name_eq a b then Some s else None
+  ty_matched s (TyCon c Ts) (TyCon d Us) = if name_eq c d then tys_matched s Ts Us else None
+  ty_matched s _ _ = None
+
+  pub tys_matched : Instance → Tys → Tys → Option Instance
+  tys_matched s NoTys NoTys = Some s
+  tys_matched s (MoreTys T Ts) (MoreTys U Us) = do
+    r ← ty_matched s T U
+    tys_matched r Ts Us
+  tys_matched s _ _ = None
+
+-- an unknown with the numbers of the bound variables to which it is applied
+pub record Flexible : Type 0 where
+  pub name : List ℕ
+  pub number : ℕ
+  pub typ : Ty
+  pub args : List ℕ
+
+-- the flexible term with one more argument
+abbrev pub applied : Option Flexible → Tm → Option Flexible
+applied None a = None
+applied (Some h) (Bound n) = Some (record h { args = h.args ++ n ∷ [] })
+applied (Some h) a = None
+
+-- the term as an unknown applied to bound variables, where it is one
+abbrev pub flexible : Tm → Option Flexible
+flexible (Unknown x i T) = Some (record { name = x; number = i; typ = T; args = [] })
+flexible (App f a) = applied (flexible f) a
+flexible t = None
+
+-- the body of `%x. t`, x being the variable n of the binders round t; here under k more binders
+abbrev pub over : ℕ → ℕ → Tm → Tm
+over n k (Const c T) = Const c T
+over n k (Free x T) = Free x T
+over n k (Unknown x i T) = Unknown x i T
+over n k (Bound i) = if nat_lt i k then Bound i else (if nat_eq i (n + k) then Bound k else Bound (i + 1))
+over n k (Abs x T b) = Abs x T (over n (k + 1) b)
+over n k (App f a) = App (over n k f) (over n k a)
+
+-- a binder's name and type
+pub record Binder : Type 0 where
+  pub name : List ℕ
+  pub typ : Ty
+
+-- `%xs. t`, eta short, the xs being variables of those binders with their names and types
+abbrev pub solution : List Binder → List ℕ → Tm → Option Tm
+solution G [] t = Some t
+solution G (n ∷ ns) t = do
+  x ← slice_get G n
+  u ← solution G ns t
+  Some (eta x.name x.typ (over n 0 u))
+
+-- whether no bound variable of t, under k binders, is loose
+abbrev pub is_closed : ℕ → Tm → Bool
+is_closed k (Const c T) = true
+is_closed k (Free x T) = true
+is_closed k (Unknown x i T) = true
+is_closed k (Bound i) = nat_lt i k
+is_closed k (Abs x T b) = is_closed (k + 1) b
+is_closed k (App f a) = is_closed k f && is_closed k a
+
+-- s with u for the unknown, unless another term stands for it
+abbrev pub bound_to : Option Tm → Instance → Flexible → Tm → Option Instance
+bound_to None s h u = Some (record s { terms = set_term (record { name = h.name; number = h.number; typ = h.typ; term = u }) s.terms })
+bound_to (Some v) s h u = if tm_eq v u then Some s else None
+
+-- `?F xs` against t: F becomes `%xs. t`, where this has no loose bound variable
+abbrev pub solved : List Binder → Instance → Flexible → Tm → Option Instance
+solved G s h t = do
+  u ← solution G h.args t
+  if is_closed 0 u then bound_to (find_term h.name h.number h.typ s.terms) s h u else None
+
+-- s with what makes the type T to U, where that is to be so
+abbrev pub typed : Bool → Instance → Ty → Ty → Option Instance
+typed same s T U = if same then ty_matched s T U else None
+
+abbrev pub app_parts : Tm → Option (Tm × Tm)
+app_parts (App f a) = Some (f, a)
+app_parts t = None
+
+-- The instance s and what makes the pattern equal to t, under binders with the pattern's names and the types of t, the innermost first.
+-- Abstractions are stripped together, a side that is none being applied to the new variable.
+abbrev pub matched : List Binder → Instance → Tm → Tm → Option Instance
+matched G s (Const c T) (Const d U) = typed (name_eq c d) s T U
+matched G s (Free x T) (Free y U) = typed (name_eq x y) s T U
+matched G s (Bound m) (Bound n) = if nat_eq m n then Some s else None
+matched G s (Unknown x i T) t = solved G s (record { name = x; number = i; typ = T; args = [] }) t
+matched G s (Abs x T b) (Abs y U c) = matched (record { name = x; typ = U } ∷ G) s b c
+matched G s (Abs x T b) t = matched (record { name = x; typ = inst_ty s.types T } ∷ G) s b (App (raise 1 0 t) (Bound 0))
+matched G s (App f a) t = elim (flexible (App f a)) [
+  | Some h ↦ solved G s h t
+  | None ↦ do
+    q ← app_parts t
+    r ← matched G s f q.0
+    matched G r a q.1
+]
+matched G s _ _ = None
+
+-- The match of the pattern p with t, if there is one: the types first, then the places from left to right.
+abbrev pub match_of : Tm → Tm → Option Instance
+match_of p t = elim (type_at [] p) [
+  | Err fault ↦ None
+  | Ok T ↦ elim (type_at [] t) [
+    | Err fault ↦ None
+    | Ok U ↦ do
+      s ← ty_matched (record { types = []; terms = [] }) T U
+      matched [] s p t
+  ]
+]

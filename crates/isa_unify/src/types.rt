@@ -1,0 +1,184 @@
+//! Unification of types.
+
+ghost use Rattle.std.specs.Prelude.{◌≡◌, ◌∷◌, [], IfOk, option_map};
+ghost use Rattle.isa_terms.specs.Types.{tys_of};
+ghost use Rattle.isa_unify.specs.TypeUnification.{ty_has, tys_have, one, followed_by, equations_under, paired, type_state, unify_typs};
+ghost use Rattle.isa_unify.specs.TypeStacks.{pair_of, stack_of, Pushes, Solves, Advances};
+
+use isa_terms::{Name, Typ, TypNode, TypeEntry, inst_typ, same_typ};
+use std::alloc::{AllocError, Global};
+
+/// Two types that are to be made equal.
+#[derive(Drop)]
+pub struct TypePair {
+    pub left: Typ,
+    pub right: Typ,
+}
+
+/// Whether the type unknown stands in the type.
+#[cycle(stands)]
+fn stands(name: &Name, number: u32, typ: &Typ) -> bool
+    ensures { result ≡ ty_has name.now number typ.now }
+{
+    match typ.view() {
+        TypNode::Con(_, args) => stand(name, number, args.as_slice()),
+        TypNode::Fixed(_) => false,
+        TypNode::Unknown(other, count) => other.same(name) && *count == number,
+    }
+}
+
+#[cycle(stands)]
+fn stand(name: &Name, number: u32, args: &[Typ]) -> bool
+    ensures { result ≡ tys_have name.now number (tys_of args.now) }
+{
+    match args.split_first() {
+        None => false,
+        Some((first, rest)) => stands(name, number, first) || stand(name, number, rest),
+    }
+}
+
+/// The type unknown with its type.
+fn one_entry(
+    alloc: Global,
+    name: &Name,
+    number: u32,
+    by: &Typ,
+) -> Result<Vec<TypeEntry>, AllocError>
+    ensures { IfOk result (λ entries. entries.items ≡ one name.now number by.now) }
+{
+    let mut entries = Vec::new(alloc);
+    entries.push(TypeEntry {
+        name: name.copy()?,
+        number,
+        typ: by.copy()?,
+    })?;
+    Ok(entries)
+}
+
+/// The equations under the instance.
+fn replace_pairs(
+    alloc: Global,
+    pairs: &[TypePair],
+    by: &[TypeEntry],
+) -> Result<Vec<TypePair>, AllocError>
+    ensures { IfOk result (λ replaced. stack_of replaced.items ≡ equations_under by.now (stack_of pairs.now)) }
+{
+    let mut replaced = Vec::new(alloc);
+    for pair in pairs {
+        let left = inst_typ(alloc, by, &pair.left)?;
+        let right = inst_typ(alloc, by, &pair.right)?;
+        replaced.push(TypePair { left, right })?;
+    }
+    Ok(replaced)
+}
+
+/// The first instance, and then the second.
+fn follow(
+    alloc: Global,
+    first: &[TypeEntry],
+    second: &[TypeEntry],
+) -> Result<Vec<TypeEntry>, AllocError>
+    ensures { IfOk result (λ both. both.items ≡ followed_by first.now second.now) }
+{
+    let mut both = Vec::new(alloc);
+    for entry in first {
+        both.push(TypeEntry {
+            name: entry.name.copy()?,
+            number: entry.number,
+            typ: inst_typ(alloc, second, &entry.typ)?,
+        })?;
+    }
+    for entry in second {
+        both.push(TypeEntry {
+            name: entry.name.copy()?,
+            number: entry.number,
+            typ: entry.typ.copy()?,
+        })?;
+    }
+    Ok(both)
+}
+
+/// Solves a type unknown, unless it stands in the type.
+fn solve(
+    alloc: Global,
+    work: &mut Vec<TypePair>,
+    solution: &mut Vec<TypeEntry>,
+    name: &Name,
+    number: u32,
+    by: &Typ,
+) -> Result<bool, AllocError>
+    ensures { IfOk result (λ going. Solves going name.now number by.now (type_state (stack_of work.old.items) solution.old.items) (type_state (stack_of work.new.items) solution.new.items)) }
+{
+    if stands(name, number, by) {
+        return Ok(false);
+    }
+    let entry = one_entry(alloc, name, number, by)?;
+    *work = replace_pairs(alloc, work, &entry)?;
+    *solution = follow(alloc, solution, &entry)?;
+    Ok(true)
+}
+
+/// The pairs of arguments above the equations, the first on top, where there are as many.
+#[tactic(auto, using(crate::proofs::Stacks::stack_pushed))]
+fn push_pairs(work: &mut Vec<TypePair>, args: &[Typ], others: &[Typ]) -> Result<bool, AllocError>
+    ensures { IfOk result (λ going. Pushes going (paired (tys_of args.now) (tys_of others.now)) (stack_of work.old.items) (stack_of work.new.items)) }
+{
+    match (args.split_first(), others.split_first()) {
+        (None, None) => Ok(true),
+        (Some((left, rest)), Some((right, more))) => {
+            if !push_pairs(work, rest, more)? {
+                return Ok(false);
+            }
+            work.push(TypePair {
+                left: left.copy()?,
+                right: right.copy()?,
+            })?;
+            Ok(true)
+        }
+        _ => Ok(false),
+    }
+}
+
+/// One step on an equation that stands before the others.
+fn advance(
+    alloc: Global,
+    work: &mut Vec<TypePair>,
+    solution: &mut Vec<TypeEntry>,
+    pair: &TypePair,
+) -> Result<bool, AllocError>
+    ensures { IfOk result (λ going. Advances going (type_state (pair_of pair.now ∷ stack_of work.old.items) solution.old.items) (type_state (stack_of work.new.items) solution.new.items)) }
+{
+    match (pair.left.view(), pair.right.view()) {
+        (TypNode::Unknown(name, number), _) => {
+            if same_typ(&pair.left, &pair.right) {
+                Ok(true)
+            } else {
+                solve(alloc, work, solution, name, *number, &pair.right)
+            }
+        }
+        (_, TypNode::Unknown(name, number)) => {
+            solve(alloc, work, solution, name, *number, &pair.left)
+        }
+        (TypNode::Fixed(name), TypNode::Fixed(other)) => Ok(name.same(other)),
+        (TypNode::Con(name, args), TypNode::Con(other, others)) => Ok(
+            name.same(other) && push_pairs(work, args.as_slice(), others.as_slice())?,
+        ),
+        _ => Ok(false),
+    }
+}
+
+/// A most general unifier of the pairs, taken from the last one to the first, if there is one.
+pub fn unify_type_pairs(
+    alloc: Global,
+    mut work: Vec<TypePair>,
+) -> Result<Option<Vec<TypeEntry>>, AllocError>
+    ensures { IfOk result (λ found. option_map (λ entries. entries.items) found ≡ unify_typs (stack_of work.items)) }
+{
+    let mut solution = Vec::new(alloc);
+    while let Some(pair) = work.pop() {
+        if !advance(alloc, &mut work, &mut solution, &pair)? {
+            return Ok(None);
+        }
+    }
+    Ok(Some(solution))
+}
