@@ -1,9 +1,8 @@
 -- An instance of a theorem has a derivation.
-use Rattle.std.proofs.Common.{◌≡◌, ◌⊎◌, inl, inr, ℕ, List, [], ◌∷◌, ◌++◌, map, Bool, true, false, cond, not, ◌&&◌, ◌||◌, nat_eq, Option, Some, None, is_some, unwrap_or, refl, sym, ap, ◌∙◌, subst}
+use Rattle.std.proofs.Common.{◌≡◌, inl, inr, ℕ, List, [], ◌∷◌, Bool, true, false, cond, not, ◌&&◌, ◌||◌, nat_eq, Option, Some, None, is_some, unwrap_or, refl, sym, ap, ◌∙◌, subst}
 use Rattle.isa_terms.specs.Types.{Ty}
 use Rattle.isa_terms.specs.Terms.{Tm, Const, Free, Unknown, Bound, Abs, App, bare}
 use Rattle.isa_terms.specs.Equal.{name_eq, ty_eq}
-use Rattle.isa_terms.specs.Typing.{type_at}
 use Rattle.isa_terms.specs.Instance.{Instance, instance_of, find_term, inst_ty, inst_tm, in_ty, in_tm, in_tms}
 use Rattle.isa_terms.specs.declared.inst.TypeEntry.{TypeEntry}
 use Rattle.isa_terms.specs.declared.inst.TermEntry.{TermEntry}
@@ -21,7 +20,7 @@ use Rattle.isa_kernel.specs.Axioms.{propositions}
 use Rattle.isa_kernel.proofs.Members.{bares}
 use Rattle.isa_kernel.proofs.Rules.{tree_more, IsDerivedOf}
 use Rattle.isa_kernel.proofs.Sound.{has_type_is}
-use Rattle.isa_conversion.proofs.Typed.{typed_of_type, type_of_typed}
+use Rattle.isa_conversion.proofs.Typed.{type_of_typed}
 use Rattle.isa_kernel.proofs.Closed.{norm_tree}
 use Rattle.isa_kernel.proofs.Preserved.{derived_typed}
 

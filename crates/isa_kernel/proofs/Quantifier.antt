@@ -1,15 +1,14 @@
 -- From `!!` over a predicate, the predicate at a term.
-use Rattle.std.proofs.Common.{◌≡◌, ◌≢◌, ℕ, suc, ◌+◌, ◌-◌, ◌<◌, ◌≤◌, List, [], ◌∷◌, ◌++◌, length, Bool, true, false, cond, nat_eq, nat_lt, Option, Some, None, refl, sym, ap, ◌∙◌, subst, arith, codes}
-use Rattle.std.specs.List.{slice_get}
+use Rattle.std.proofs.Common.{◌≡◌, ℕ, suc, ◌+◌, ◌-◌, ◌<◌, List, [], length, false, cond, nat_eq, nat_lt, Some, refl, sym, ap, ◌∙◌, subst, arith, codes}
 use Rattle.std.proofs.lemmas.Bool.Decides.{nat_tests}
 use Rattle.isa_terms.specs.Types.{Ty}
 use Rattle.isa_terms.specs.Terms.{Tm, Const, Free, Unknown, Bound, Abs, App, bare}
-use Rattle.isa_terms.specs.Typing.{function_of, type_at, HasType}
+use Rattle.isa_terms.specs.Typing.{function_of, HasType}
 use Rattle.isa_terms.specs.Replace.{raise, put, replace}
 use Rattle.isa_terms.proofs.Bare.{put_bare, type_at_bare}
 use Rattle.isa_conversion.proofs.Functions.{bind_some}
 use Rattle.isa_conversion.proofs.Typed.{Typed, TConst, TFree, TUnknown, TBound, TAbs, TApp, typed_of_type, type_of_typed}
-use Rattle.isa_kernel.specs.Logic.{prop, eq, all}
+use Rattle.isa_kernel.specs.Logic.{prop}
 use Rattle.isa_kernel.specs.Forms.{app_parts, const_type, predicate_of, quantifier_parts, at}
 use Rattle.isa_kernel.specs.Derivation.{Tree, Reflexive, Symmetric, Combination, Eta, EqualElim, ForallElim}
 use Rattle.isa_kernel.proofs.Parts.{app_made, const_made, predicate_made}

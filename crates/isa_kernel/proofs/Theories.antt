@@ -1,15 +1,15 @@
 -- Declarations one after the other, and their sorts.
-use Rattle.std.proofs.Common.{◌≡◌, ℕ, zero, suc, ◌+◌, ◌-◌, ◌≤◌, List, drop, take-append-drop, length-append, take_all, append_assoc, append-nil, arith, [], ◌∷◌, ◌++◌, length, take, Bool, true, false, cond, Option, Some, None, Ok, inl, refl, sym, ap, ◌∙◌, subst}
+use Rattle.std.proofs.Common.{◌≡◌, ℕ, zero, suc, ◌-◌, ◌≤◌, List, drop, take-append-drop, length-append, append_assoc, append-nil, arith, [], ◌∷◌, ◌++◌, length, take, Bool, true, false, cond, Some, None, Ok, inl, refl, sym, ap, ◌∙◌, subst}
 use Rattle.std.specs.Map.{lookup}
 use Rattle.indexmap.specs.IndexMap.{insert_entry}
 use Rattle.isa_terms.specs.Types.{Ty}
-use Rattle.isa_terms.specs.Terms.{Tm, bare}
+use Rattle.isa_terms.specs.Terms.{Tm}
 use Rattle.isa_terms.specs.Equal.{name_eq, ty_eq}
 use Rattle.isa_terms.specs.Typing.{type_at}
 use Rattle.isa_terms.proofs.Equal.{ty_decides}
 use Rattle.isa_terms.proofs.Bare.{type_at_bare}
 use Rattle.isa_kernel.specs.Logic.{prop, IsProposition}
-use Rattle.isa_kernel.specs.Derivation.{Tree, Axiom, Derives}
+use Rattle.isa_kernel.specs.Derivation.{Axiom}
 use Rattle.isa_kernel.specs.Theorem.{Theorem, IsDerived}
 use Rattle.isa_kernel.specs.Theories.{AreProps, axiom_theorem, types_in, constants_in, axioms_in, pure_types, pure_constants}
 use Rattle.isa_kernel.specs.declared.declarations.Declaration.{Declaration}

@@ -1,5 +1,5 @@
 -- Axioms by name, as sets.
-use Rattle.std.specs.Prelude.{refl, ◌≡◌, ℕ, List, [], ◌∷◌, ◌++◌, map, Bool, false, ◌||◌, ◌&&◌, if◌then◌else◌}
+use Rattle.std.specs.Prelude.{refl, ℕ, List, [], ◌∷◌, ◌++◌, map, Bool, false, ◌||◌, ◌&&◌, if◌then◌else◌}
 use Rattle.std.specs.Coded.{Coded, code_by, coded×, coded_list, coded_ℕ}
 use Rattle.isa_terms.specs.Codes.{coded_tm}
 use Rattle.isa_terms.specs.Terms.{Tm, bare}

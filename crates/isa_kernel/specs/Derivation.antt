@@ -2,10 +2,10 @@
 use Rattle.std.specs.Prelude.{◌≡◌, ℕ, List, [], ◌∷◌, ◌++◌, false}
 use Rattle.std.proofs.Common.{◌⊎◌}
 use Rattle.isa_terms.specs.Types.{Ty}
-use Rattle.isa_terms.specs.Terms.{Tm, Free, Bound, Abs, App}
+use Rattle.isa_terms.specs.Terms.{Tm, Bound, Abs, App}
 use Rattle.isa_terms.specs.Typing.{function_of}
 use Rattle.isa_terms.specs.Replace.{replace}
-use Rattle.isa_terms.specs.Binding.{occurs, occurs_in, close}
+use Rattle.isa_terms.specs.Binding.{occurs_in, close}
 use Rattle.isa_terms.specs.Sets.{without}
 use Rattle.isa_terms.specs.Generalize.{gen_tm, named_in}
 use Rattle.isa_terms.specs.declared.inst.TypeEntry.{TypeEntry}

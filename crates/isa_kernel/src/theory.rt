@@ -54,7 +54,12 @@ impl Theory {
     }
 
     /// Declares a type constructor with that number of arguments.
-    pub fn declare_type(&mut self, name: &Name, arity: u32) -> Result<(), TheoryFail>
+    pub fn declare_type(
+        &mut self,
+        _alloc: Global,
+        name: &Name,
+        arity: u32,
+    ) -> Result<(), TheoryFail>
         ensures { Declares (Constructor name.now arity) (type_refusal self.old name.now) self.old self.new result }
     {
         self.check_type(name)?;
@@ -62,7 +67,12 @@ impl Theory {
     }
 
     /// Declares a constant with its general type.
-    pub fn declare_const(&mut self, name: &Name, typ: &Typ) -> Result<(), TheoryFail>
+    pub fn declare_const(
+        &mut self,
+        _alloc: Global,
+        name: &Name,
+        typ: &Typ,
+    ) -> Result<(), TheoryFail>
         ensures { Declares (Constant name.now typ.now) (constant_refusal self.old name.now typ.now) self.old self.new result }
     {
         self.check_constant(name, typ)?;

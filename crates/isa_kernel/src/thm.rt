@@ -5,7 +5,7 @@ ghost use Rattle.isa_kernel.specs.Inferences.{Answers, TypedAs, IsChecked, has_t
 ghost use Rattle.isa_terms.specs.Typing.{type_at};
 ghost use Rattle.isa_terms.specs.Terms.{Abs};
 ghost use Rattle.isa_terms.specs.Binding.{close};
-ghost use Rattle.isa_terms.specs.Sets.{joined, without};
+ghost use Rattle.isa_terms.specs.Sets.{missing, joined, without};
 ghost use Rattle.isa_kernel.specs.Axioms.{names_of};
 ghost use Rattle.isa_kernel.specs.Theories.{AnswersAxiom};
 
@@ -19,7 +19,7 @@ use crate::inference::InferenceError;
 use crate::theory::Theory;
 use isa_terms::{
     IllTyped, Inst, Name, Names, Term, TermEntry, TermNode, Terms, Typ, TypeEntry, closed,
-    function_type, gen_term, in_some, inst_typ, instantiate, joined, named_in_some, occurs_in,
+    function_type, gen_term, has, in_some, inst_typ, instantiate, joined, named_in_some, occurs_in,
     replaced, same_term, same_typ, split_function, type_of, without,
 };
 use std::alloc::{AllocError, Global};
@@ -123,7 +123,19 @@ fn has_none(terms: &Terms) -> bool
     }
 }
 
-/// The first hypotheses, and then those of the second that are not there. An empty side leaves the other one shared.
+/// Whether all of the second hypotheses are among the first.
+fn holds_all(first: &[Term], second: &[Term]) -> bool
+    ensures { IsTrue result → missing first.now second.now ≡ [] }
+{
+    for u in second {
+        if !has(first, u) {
+            return false;
+        }
+    }
+    true
+}
+
+/// The first hypotheses, and then those of the second that are not there. Where one side has all, it is shared.
 #[tactic(auto, using(crate::proofs::Members::missing_none))]
 fn joined_hyps(
     alloc: Global,
@@ -132,11 +144,11 @@ fn joined_hyps(
 ) -> Result<Rc<Terms>, AllocError>
     ensures { IfOk result (λ r. r.value ≡ joined first.now.value second.now.value) }
 {
-    if has_none(second) {
-        return first.clone();
-    }
     if has_none(first) {
         return second.clone();
+    }
+    if holds_all(first.as_slice(), second.as_slice()) {
+        return first.clone();
     }
     Ok(Rc::new(alloc, joined(alloc, first.as_slice(), second.as_slice())?)?)
 }
