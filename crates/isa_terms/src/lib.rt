@@ -2,6 +2,7 @@
 #![tactic(auto)]
 
 mod binding;
+mod changes;
 mod facts;
 mod generalize;
 mod inst;
@@ -17,6 +18,8 @@ mod replace;
 mod same;
 mod term;
 mod terms;
+#[cfg(test)]
+mod tests;
 mod typ;
 mod typing;
 

@@ -1,21 +1,18 @@
 -- Unknowns applied to bound variables.
-use Rattle.std.proofs.Common.{◌≡◌, ◌≢◌, ℕ, zero, suc, ◌+◌, List, [], ◌∷◌, ◌++◌, Bool, true, false, ◌&&◌, ◌||◌, not, nat_eq, refl, sym, ap, subst, ◌∙◌, cond, Option, Some, None, unwrap_or}
+use Rattle.std.proofs.Common.{◌≡◌, ℕ, List, [], ◌∷◌, ◌++◌, Bool, true, false, ◌&&◌, ◌||◌, not, nat_eq, refl, sym, ap, subst, ◌∙◌, Option, Some, None}
 use Rattle.std.specs.List.{slice_get}
 use Rattle.isa_terms.specs.Types.{Ty}
 use Rattle.isa_terms.specs.Terms.{Tm, Const, Free, Unknown, Bound, Abs, App}
 use Rattle.isa_terms.specs.Equal.{name_eq, ty_eq}
 use Rattle.isa_terms.specs.Typing.{function_of}
-use Rattle.isa_terms.specs.Normal.{IsHead, IsNormal}
-use Rattle.isa_terms.specs.Instance.{Instance, inst_ty, inst_tm}
-use Rattle.isa_terms.specs.Order.{head_of}
-use Rattle.isa_terms.specs.Pattern.{is_unknown, is_bound, is_argument, is_new_bound, distinct_args, is_pattern}
+use Rattle.isa_terms.specs.Instance.{Instance, inst_tm}
 use Rattle.isa_terms.specs.declared.inst.TypeEntry.{TypeEntry}
 use Rattle.isa_terms.specs.declared.inst.TermEntry.{TermEntry}
-use Rattle.isa_conversion.specs.Typed.{Typed, TConst, TFree, TUnknown, TBound, TAbs, TApp}
+use Rattle.isa_conversion.specs.Typed.{Typed, TUnknown, TBound, TApp}
 use Rattle.isa_conversion.proofs.Heads.{IsRigid}
 use Rattle.isa_unify.specs.TypeUnification.{ty_has}
 use Rattle.isa_unify.specs.Matching.{Binder, Flexible, flexible, applied, solved, matched, has_unknown, has_type_unknown, app_parts, ◌>>=◌}
-use Rattle.isa_unify.proofs.Tests.{both_true, some_same, number_true}
+use Rattle.isa_unify.proofs.Tests.{some_same}
 
 pub flexible_matched : (G : List Binder) (s : Instance) (p t : Tm) (h : Flexible) → flexible p ≡ Some h → matched G s p t ≡ solved G s h t
 flexible_matched G s (Unknown x i T) t h e = ap (λ k. solved G s k t) (some_same e)

@@ -9,3 +9,6 @@ pub mod Measure
 pub mod Assigned
 pub mod Adequacy
 pub mod Flexible
+pub mod TypeAnswers
+pub mod Solutions
+pub mod PatternMatches

@@ -1,6 +1,5 @@
 -- Matching of types finds what makes one type another, where that can be had.
-use Rattle.std.proofs.Common.{◌≡◌, ℕ, List, [], ◌∷◌, Bool, true, false, ◌&&◌, ◌||◌, nat_eq, refl, sym, ap, subst, ◌∙◌, cond, ◌⊎◌, inl, inr, Option, Some, None, is_some, unwrap_or}
-use Rattle.std.specs.Cmp.Lexicographic.{bytes_decides}
+use Rattle.std.proofs.Common.{◌≡◌, ℕ, List, [], ◌∷◌, Bool, true, false, ◌&&◌, nat_eq, refl, sym, ap, subst, ◌∙◌, cond, ◌⊎◌, inl, inr, Option, Some, None, is_some, unwrap_or}
 use Rattle.isa_terms.specs.Types.{Ty, Tys, TyCon, TyFixed, TyUnknown, NoTys, MoreTys}
 use Rattle.isa_terms.specs.Equal.{name_eq, ty_eq}
 use Rattle.isa_terms.specs.Entries.{set_first}
@@ -9,7 +8,7 @@ use Rattle.isa_terms.specs.declared.inst.TypeEntry.{TypeEntry}
 use Rattle.isa_terms.proofs.Equal.{ty_decides}
 use Rattle.isa_unify.specs.TypeUnification.{ty_has, tys_have}
 use Rattle.isa_unify.specs.Matching.{ty_matched, tys_matched, ◌>>=◌}
-use Rattle.isa_unify.proofs.Tests.{both_true, and_true, or_left, or_right, either_true, key_self, key_true, key_turned, some_same, value_of, name_self, name_true}
+use Rattle.isa_unify.proofs.Tests.{or_left, or_right, either_true, key_self, key_true, key_turned, some_same, value_of, name_self, name_true}
 
 -- two tests of one name and number
 pub skipped : {A : Type 0} (k l : Bool) (u v w : A) → (l ≡ true → k ≡ true) → cond k u w ≡ cond k u (cond l v w)

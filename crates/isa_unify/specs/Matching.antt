@@ -1,16 +1,13 @@
 -- Matches of patterns (Miller; Nipkow): each unknown of a pattern is applied to distinct bound variables only.
-use Rattle.std.specs.Prelude.{◌≡◌, ℕ, ◌+◌, nat_eq, nat_lt, Bool, true, false, ◌&&◌, ◌||◌, List, [], ◌∷◌, ◌++◌, slice_get, All, Option, Some, None, is_some, option_map, Ok, Err, if◌then◌else◌}
+use Rattle.std.specs.Prelude.{◌≡◌, ℕ, ◌+◌, nat_eq, nat_lt, Bool, true, false, ◌&&◌, ◌||◌, List, [], ◌∷◌, ◌++◌, slice_get, Option, Some, None, is_some, Ok, Err, if◌then◌else◌}
 use Rattle.isa_terms.specs.Types.{Ty, Tys, TyCon, TyFixed, TyUnknown, NoTys, MoreTys}
 use Rattle.isa_terms.specs.Terms.{Tm, Const, Free, Unknown, Bound, Abs, App, bare}
 use Rattle.isa_terms.specs.Equal.{name_eq, ty_eq, tm_eq}
-use Rattle.isa_terms.specs.Typing.{type_at, HasType}
+use Rattle.isa_terms.specs.Typing.{type_at}
 use Rattle.isa_terms.specs.Replace.{raise}
-use Rattle.isa_terms.specs.Norm.{eta, norm}
-use Rattle.isa_terms.specs.Instance.{Instance, find_type, find_term, inst_ty, inst_tm, instance_of, set_type, set_term}
-use Rattle.isa_terms.specs.Normal.{IsNormal}
+use Rattle.isa_terms.specs.Norm.{eta}
+use Rattle.isa_terms.specs.Instance.{Instance, find_type, find_term, inst_ty, instance_of, set_type, set_term}
 use Rattle.isa_conversion.specs.Instances.{IsKept}
-use Rattle.isa_terms.specs.declared.inst.TypeEntry.{TypeEntry}
-use Rattle.isa_terms.specs.declared.inst.TermEntry.{TermEntry}
 use Rattle.isa_unify.specs.TypeUnification.{ty_has}
 
 -- what a step makes of what is there
@@ -149,14 +146,14 @@ matched G s (App f a) t = elim (flexible (App f a)) [
 ]
 matched G s _ _ = None
 
+-- the type of a term that is well typed without loose bound variables
+abbrev pub closed_type : Tm → Option Ty
+closed_type t = elim (type_at [] t) [ Ok T ↦ Some T | Err fault ↦ None ]
+
 -- The match of the pattern p with t, if there is one: the types first, then the places from left to right.
 abbrev pub match_of : Tm → Tm → Option Instance
-match_of p t = elim (type_at [] p) [
-  | Err fault ↦ None
-  | Ok T ↦ elim (type_at [] t) [
-    | Err fault ↦ None
-    | Ok U ↦ do
-      s ← ty_matched (record { types = []; terms = [] }) T U
-      matched [] s p t
-  ]
-]
+match_of p t = do
+  T ← closed_type p
+  U ← closed_type t
+  s ← ty_matched (record { types = []; terms = [] }) T U
+  matched [] s p t

@@ -2,11 +2,12 @@
 #![tactic(auto)]
 
 mod binders;
+mod equation;
 mod lookup;
 mod matching;
-mod equation;
 mod numbers;
 mod progress;
 mod types;
 
-pub use types::{TypePair, unify_type_pairs};
+pub use matching::match_pattern;
+pub use types::{TypePair, unify_type_pairs, unify_types};

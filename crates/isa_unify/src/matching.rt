@@ -5,7 +5,7 @@ ghost use Rattle.isa_terms.specs.Types.{tys_of};
 ghost use Rattle.isa_terms.specs.Instance.{find_term};
 ghost use Rattle.isa_terms.specs.Terms.{App, Bound};
 ghost use Rattle.isa_terms.specs.Replace.{raise};
-ghost use Rattle.isa_unify.specs.Matching.{ty_matched, tys_matched, flexible, bound_to, solved, typed, matched, match_of};
+ghost use Rattle.isa_unify.specs.Matching.{ty_matched, tys_matched, flexible, bound_to, solved, typed, matched, closed_type, match_of};
 ghost use Rattle.isa_unify.specs.BinderLists.{binders_in, flexible_of};
 
 use crate::binders::{Binders, is_closed, solution};
@@ -168,4 +168,33 @@ fn extend(
         ),
         _ => Ok(false),
     }
+}
+
+/// The type of a term that is well typed without loose bound variables.
+fn closed_type(alloc: Global, t: &Term) -> Result<Option<Typ>, AllocError>
+    ensures { IfOk result (λ found. found ≡ closed_type t.now) }
+{
+    match type_of(alloc, t) {
+        Ok(typ) => Ok(Some(typ)),
+        Err(IllTyped::Memory) => Err(AllocError),
+        Err(_) => Ok(None),
+    }
+}
+
+/// The instance of the pattern's unknowns and type unknowns that makes the pattern equal to the term, if there is one.
+pub fn match_pattern(alloc: Global, pattern: &Term, term: &Term) -> Result<Option<Inst>, AllocError>
+    ensures answer { IfOk result (λ found. found ≡ match_of pattern.now term.now) }
+{
+    let Some(typ) = closed_type(alloc, pattern)? else {
+        return Ok(None);
+    };
+    let Some(wanted) = closed_type(alloc, term)? else {
+        return Ok(None);
+    };
+    let mut inst = Inst::new(alloc);
+    if !extend_types(alloc, &mut inst, &typ, &wanted)? {
+        return Ok(None);
+    }
+    let found = extend(alloc, &Binders::Outermost, &mut inst, pattern, term)?;
+    Ok(found.then_some(inst))
 }

@@ -1,6 +1,5 @@
 use Rattle.std.proofs.Common.{◌≡◌, IfOk, cond, Some, None, Option, sym, subst, ◌∙◌, ap, option_map}
 use Rattle.isa_terms.specs.Instance.{Instance}
-use Rattle.isa_unify.specs.Matching.{matched}
 use Rattle.isa_unify.specs.BinderLists.{binders_in, flexible_of}
 use Rattle.isa_unify.proofs.Flexible.{flexible_matched}
 use Rattle.isa_unify.proofs.matching.+extend.Goals as goal
