@@ -13,3 +13,4 @@ pub mod TypeAnswers
 pub mod Solutions
 pub mod PatternMatches
 pub mod PatternComplete
+pub mod MatchAnswers
