@@ -12,3 +12,5 @@ pub mod Flexible
 pub mod TypeAnswers
 pub mod Solutions
 pub mod PatternMatches
+pub mod PatternComplete
+pub mod MatchAnswers
