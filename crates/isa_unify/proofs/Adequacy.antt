@@ -444,7 +444,7 @@ steps_left-solved s t e = (ends_once (unified_reached s).1 (Ending.solved t e (u
 
 -- 7. Clashes
 
-abbrev ClashGoes : List Equation → Step (List Equation) Bool → Type 0
+abbrev pub ClashGoes : List Equation → Step (List Equation) Bool → Type 0
 ClashGoes es (Done a) = Unit {0}
 ClashGoes es (Lighter fs) = weight fs < weight es
 ClashGoes es (Solved fs) = ⊥
@@ -463,12 +463,12 @@ clash_parts e es (Heads S T parts) q = go (is_some (unify_typs ((S, T) ∷ [])))
         let a = weight-append parts es in omega (arith, f, a)
     go false = tt
 
-clash_goes : (es : List Equation) → ClashGoes es (clash_step es)
+pub clash_goes : (es : List Equation) → ClashGoes es (clash_step es)
 unfolding clash_step
 clash_goes [] = tt
 clash_goes (e ∷ es) = clash_parts e es (parts_at e.binders e.left e.right) refl
 
-clashes_reached : (es : List Equation) → Reaches clash_step (clashes es) es
+pub clashes_reached : (es : List Equation) → Reaches clash_step (clashes es) es
 unfolding clashes
 clashes_reached es = bounded clash_step weight true (λ n s. n ≡ n) (λ n s p. at n s (clash_step s) (clash_goes s)) 1 0 es (omega arith) refl
   where

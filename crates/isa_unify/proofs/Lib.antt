@@ -7,3 +7,9 @@ pub mod Unknowns
 pub mod Measure
 pub mod Assigned
 pub mod Adequacy
+pub mod Loops
+pub mod Lists
+pub mod NoTypes
+pub mod Once
+pub mod Entries
+pub mod Flexible

@@ -55,3 +55,10 @@ pub enum Progress {
     Going(State),
     Ended(Answer),
 }
+
+/// What a step of the walk that looks for clashes leads to.
+#[derive(Drop)]
+pub enum Walk {
+    Goes(Equations),
+    Ends(bool),
+}
