@@ -1,12 +1,10 @@
 -- Entries for different unknowns, put into a map one after another.
-use Rattle.std.proofs.Common.{◌≡◌, ℕ, suc, ◌+◌, ◌<◌, List, [], ◌∷◌, ◌++◌, Bool, true, false, cond, ◌&&◌, ◌||◌, nat_eq, drop, length, get_or, refl, sym, ap, subst, ◌∙◌, append_assoc, drop-cons, arith}
+use Rattle.std.proofs.Common.{◌≡◌, ℕ, ◌+◌, ◌<◌, List, [], ◌∷◌, ◌++◌, Bool, true, false, cond, ◌&&◌, ◌||◌, drop, length, get_or, refl, sym, ap, subst, ◌∙◌, append_assoc, drop-cons}
 use Rattle.std.proofs.Math.Numerals.{suc-eq-add-one}
 use Rattle.isa_terms.specs.Entries.{set_first, passes, Once}
 use Rattle.isa_terms.specs.Instance.{set_type, set_term, same_type_unknown, same_unknown}
-use Rattle.isa_terms.specs.Equal.{name_eq, ty_eq}
 use Rattle.isa_terms.specs.declared.inst.TypeEntry.{TypeEntry}
 use Rattle.isa_terms.specs.declared.inst.TermEntry.{TermEntry}
-use Rattle.isa_unify.specs.Calls.{AreOnce}
 use Rattle.isa_unify.proofs.Once.{name_turned, number_turned, typ_turned}
 
 type_turned : (a b : TypeEntry) → same_type_unknown a b ≡ same_type_unknown b a

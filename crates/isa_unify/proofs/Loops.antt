@@ -1,13 +1,11 @@
 -- The loops over the steps of unification and over the walk that looks for clashes.
-use Rattle.std.proofs.Common.{◌≡◌, ℕ, suc, ◌<◌, Bool, List, Some, Result, IfOk, ap, arith, ◌∙◌, sym, refl}
+use Rattle.std.proofs.Common.{◌≡◌, ℕ, ◌<◌, Bool, List, Some, Result, IfOk, ap, arith, ◌∙◌, sym, refl}
 use Rattle.std.proofs.lemmas.Result.{IfOk-weaker}
 use Rattle.isa_unify.specs.Descent.{Step, Done, Lighter, Solved}
 use Rattle.isa_unify.specs.declared.progress.State.{State}
 use Rattle.isa_unify.specs.declared.progress.Answer.{Answer}
-use Rattle.isa_unify.specs.declared.progress.Progress.{Progress}
 use Rattle.isa_unify.specs.declared.progress.Progress.TheVariants.{Going, Ended}
 use Rattle.isa_unify.specs.declared.equation.Equation.{Equation}
-use Rattle.isa_unify.specs.declared.progress.Walk.{Walk}
 use Rattle.isa_unify.specs.declared.progress.Walk.TheVariants.{Goes, Ends}
 use Rattle.isa_terms.specs.declared.inst.TypeEntry.{TypeEntry}
 use Rattle.isa_unify.specs.TypeUnification.{unify_typs}

@@ -1,7 +1,7 @@
 -- Each type unknown and each unknown that is asked for has one entry.
-use Rattle.std.proofs.Common.{◌≡◌, ℕ, List, [], ◌∷◌, ◌++◌, map, filter, length, Bool, true, false, cond, ◌&&◌, ◌||◌, nat_eq, refl, sym, ap, subst, ◌∙◌, Option, Some, None}
+use Rattle.std.proofs.Common.{◌≡◌, ℕ, List, [], ◌∷◌, ◌++◌, map, filter, length, Bool, true, false, cond, ◌&&◌, ◌||◌, nat_eq, refl, sym, subst, ◌∙◌, Option, Some, None}
 use Rattle.std.specs.Prelude.{is_some}
-use Rattle.std.proofs.lemmas.Bool.Decides.{Decides-and, Decides-like, Decides-eqb, same_from_decides}
+use Rattle.std.proofs.lemmas.Bool.Decides.{Decides-like, Decides-eqb, same_from_decides}
 use Rattle.std.specs.Cmp.Lexicographic.{bytes_decides}
 use Rattle.isa_terms.specs.Types.{Ty, Tys, TyCon, TyFixed, TyUnknown, NoTys, MoreTys}
 use Rattle.isa_terms.specs.Terms.{Tm, Const, Free, Unknown, Bound, Abs, App}
@@ -11,7 +11,6 @@ use Rattle.isa_terms.specs.Instance.{find_type, find_term, inst_ty, same_type_un
 use Rattle.isa_terms.specs.declared.inst.TypeEntry.{TypeEntry}
 use Rattle.isa_terms.specs.declared.inst.TermEntry.{TermEntry}
 use Rattle.isa_terms.proofs.Equal.{ty_decides}
-use Rattle.isa_unify.specs.declared.equation.Variable.{Variable}
 use Rattle.isa_unify.specs.declared.equation.Equation.{Equation}
 use Rattle.isa_unify.specs.declared.progress.Parts.{Parts}
 use Rattle.isa_unify.specs.declared.progress.Parts.TheVariants.{Flexible, Clash, Into, Heads}
@@ -20,8 +19,8 @@ use Rattle.isa_unify.specs.declared.progress.Verdict.TheVariants.{Fine, Refused,
 use Rattle.isa_unify.specs.declared.progress.State.{State}
 use Rattle.isa_unify.specs.declared.progress.Answer.{Answer}
 use Rattle.isa_unify.specs.declared.progress.Answer.TheVariants.{Yes, No, Outside}
-use Rattle.isa_unify.specs.Descent.{Step, Done, Lighter, Solved, Ends, now, lighter, solved}
-use Rattle.isa_unify.specs.TypeUnification.{unify_typs, entries_under}
+use Rattle.isa_unify.specs.Descent.{Done, Lighter, Solved, Ends, now, lighter, solved}
+use Rattle.isa_unify.specs.TypeUnification.{unify_typs}
 use Rattle.isa_unify.specs.Spines.{head_of, args_of, has_number, distinct_bounds}
 use Rattle.isa_unify.specs.Calls.{AreOnce}
 use Rattle.isa_unify.specs.Unification.{parts_at, clashes, abstracted, range_behind, over, first_place, filled_entry, filled_state, retyped_entry, retyped_state, UnifyStep, becomes, renewed, both_become, after_new, with_first, with_new, solve_at, solve, agreeing, solve_same, solve_two, on_pattern, flexible_step, after_types, front_step, unify_step, unified, with_type_unknowns, with_all_type_unknowns, with_types, with_unknowns, asked_types, asked_terms, start, answer_at, all_types, unify}

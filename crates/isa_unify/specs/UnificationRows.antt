@@ -1,7 +1,6 @@
 -- Worked examples: the definition computes its answers. New unknowns are numbered from 1.
 use Rattle.std.specs.Prelude.{◌≡◌, [], ◌∷◌, codes, refl}
-use Rattle.isa_terms.specs.Types.{Ty}
-use Rattle.isa_terms.specs.Terms.{Tm, Const, Bound, Abs, App}
+use Rattle.isa_terms.specs.Terms.{Const, Bound, Abs, App}
 use Rattle.isa_unify.specs.declared.progress.Answer.TheVariants.{Yes, No, Outside}
 use Rattle.isa_unify.specs.Unification.{unify}
 use Rattle.isa_unify.specs.Worked.{◌⇒◌, i, o, ta, c, d, e, g, h, Q, R, a, b, un, x, y, F, F2, G, G2, P, P2, All, K, put, put_type, unify_two}

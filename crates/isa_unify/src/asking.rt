@@ -5,7 +5,9 @@ ghost use Rattle.isa_terms.specs.Types.{tys_of};
 ghost use Rattle.isa_terms.specs.Instance.{find_type, find_term};
 ghost use Rattle.isa_unify.specs.Unification.{with_type_unknowns, with_all_type_unknowns, with_types, with_unknowns};
 
-use isa_terms::{Name, Term, TermEntries, TermEntry, TermNode, Typ, TypNode, TypeEntries, TypeEntry, same_typ};
+use isa_terms::{
+    Name, Term, TermEntries, TermEntry, TermNode, Typ, TypNode, TypeEntries, TypeEntry, same_typ,
+};
 use std::alloc::{AllocError, Global};
 
 /// Whether the type unknown has an entry.

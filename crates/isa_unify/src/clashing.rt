@@ -26,11 +26,7 @@ pub fn unified_types(
 }
 
 /// The walk over an equation before the others.
-fn walk_front(
-    alloc: Global,
-    equation: &Equation,
-    mut rest: Equations,
-) -> Result<Walk, AllocError>
+fn walk_front(alloc: Global, equation: &Equation, mut rest: Equations) -> Result<Walk, AllocError>
     ensures { IfOk result (λ w. w ≡ walked (clash_step_at (parts_at equation.now.binders equation.now.left equation.now.right) rest)) }
 {
     match parts_at(alloc, &equation.binders, &equation.left, &equation.right)? {

@@ -66,11 +66,7 @@ fn filled_entries(
 }
 
 /// The state with terms for unknowns.
-pub fn filled_state(
-    alloc: Global,
-    terms: &[TermEntry],
-    state: State,
-) -> Result<State, AllocError>
+pub fn filled_state(alloc: Global, terms: &[TermEntry], state: State) -> Result<State, AllocError>
     ensures { IfOk result (λ r. r ≡ filled_state terms.now state) }
 {
     let equations = filled_equations(alloc, terms, &state.equations)?;
@@ -174,11 +170,7 @@ fn retyped_entries(
 
 /// The state with types for type unknowns; without any it stays.
 #[tactic(auto, using(crate::proofs::NoTypes::retyped_by_none))]
-pub fn retyped_state(
-    alloc: Global,
-    types: &[TypeEntry],
-    state: State,
-) -> Result<State, AllocError>
+pub fn retyped_state(alloc: Global, types: &[TypeEntry], state: State) -> Result<State, AllocError>
     ensures { IfOk result (λ r. r ≡ retyped_state types.now state) }
 {
     if types.is_empty() {

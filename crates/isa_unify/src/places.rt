@@ -107,14 +107,7 @@ fn at_unknown(
         TermNode::Unknown(name, number, typ) => match distinct_bounds(alloc, args)? {
             None => Ok(Verdict::Strays),
             Some(variables) => at_pattern(
-                alloc,
-                solved,
-                depth,
-                binders,
-                name,
-                *number,
-                typ,
-                variables,
+                alloc, solved, depth, binders, name, *number, typ, variables,
             ),
         },
         _ => Ok(Verdict::Fine),
@@ -163,14 +156,7 @@ pub fn first_place(
             if is_flexible(fun) {
                 let mut args = args_of(alloc, fun)?;
                 args.push(arg.copy()?)?;
-                return at_unknown(
-                    alloc,
-                    solved,
-                    depth,
-                    binders,
-                    head_of(fun),
-                    args.as_slice(),
-                );
+                return at_unknown(alloc, solved, depth, binders, head_of(fun), args.as_slice());
             }
             match first_place(alloc, solved, depth, binders, fun)? {
                 Verdict::Fine => first_place(alloc, solved, depth, binders, arg),

@@ -1,4 +1,3 @@
-
 use crate::equation::{Binders, Equations};
 use crate::numbers::Numbers;
 use isa_terms::{Name, TermEntries, Typ, TypeEntries};

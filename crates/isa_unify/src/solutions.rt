@@ -5,7 +5,9 @@ ghost use Rattle.isa_terms.specs.Norm.{loose, eta};
 ghost use Rattle.isa_unify.specs.Unification.{no_variable, variable, bind_all, place_behind, moved, abstracted, arrows, range_behind, on_bounds, over};
 
 use crate::equation::{Binders, Variable};
-use isa_terms::{Name, Term, TermNode, Typ, TypNode, Typs, function_type, replaced, split_function};
+use isa_terms::{
+    Name, Term, TermNode, Typ, TypNode, Typs, function_type, replaced, split_function,
+};
 use std::alloc::{AllocError, Global};
 
 /// Whether the variable `depth` of as many binders is in the term.
@@ -124,12 +126,7 @@ pub fn abstracted(
 }
 
 /// The type of functions from the variables to the range.
-fn arrows(
-    alloc: Global,
-    binders: &Binders,
-    numbers: &[u32],
-    range: &Typ,
-) -> Result<Typ, AllocError>
+fn arrows(alloc: Global, binders: &Binders, numbers: &[u32], range: &Typ) -> Result<Typ, AllocError>
     ensures { IfOk result (λ T. T ≡ arrows binders.now numbers.now range.now) }
 {
     match numbers.split_first() {

@@ -117,14 +117,7 @@ fn prune(
     }
     let new = state.next;
     let state = with_first(after_new(state)?, equation)?;
-    Ok(Progress::Going(renewed(
-        alloc,
-        state,
-        binders,
-        pruned,
-        new,
-        kept,
-    )?))
+    Ok(Progress::Going(renewed(alloc, state, binders, pruned, new, kept)?))
 }
 
 /// An unknown on variables against a rigid term.
@@ -234,16 +227,16 @@ fn solve_two(
     let new = state.next;
     let kept = shared_of(alloc, right.variables, left.variables)?;
     let range = range_behind(left.variables, left.typ);
-    let shared = over(alloc, &equation.binders, left.name, new, kept.as_slice(), range)?;
-    let state = after_new(state)?;
-    Ok(Progress::Going(both_become(
+    let shared = over(
         alloc,
-        state,
-        equation,
-        left,
-        right,
-        &shared,
-    )?))
+        &equation.binders,
+        left.name,
+        new,
+        kept.as_slice(),
+        range,
+    )?;
+    let state = after_new(state)?;
+    Ok(Progress::Going(both_become(alloc, state, equation, left, right, &shared)?))
 }
 
 /// Two unknowns on variables.
@@ -272,14 +265,13 @@ fn variables_of(alloc: Global, t: &Term) -> Result<Option<Numbers>, AllocError>
 }
 
 /// An equation with a flexible side.
-fn flexible_step(
-    alloc: Global,
-    state: State,
-    equation: &Equation,
-) -> Result<Progress, AllocError>
+fn flexible_step(alloc: Global, state: State, equation: &Equation) -> Result<Progress, AllocError>
     ensures { IfOk result (λ p. p ≡ taken (flexible_step state equation.now (head_of equation.now.left) (head_of equation.now.right))) }
 {
-    match (head_of(&equation.left).view(), head_of(&equation.right).view()) {
+    match (
+        head_of(&equation.left).view(),
+        head_of(&equation.right).view(),
+    ) {
         (TermNode::Unknown(name, number, typ), TermNode::Unknown(other, count, kind)) => {
             let Some(left) = variables_of(alloc, &equation.left)? else {
                 return Ok(Progress::Ended(Answer::Outside));
@@ -330,11 +322,7 @@ fn flexible_step(
 }
 
 /// The equation before those of the state.
-fn front_step(
-    alloc: Global,
-    mut state: State,
-    equation: &Equation,
-) -> Result<Progress, AllocError>
+fn front_step(alloc: Global, mut state: State, equation: &Equation) -> Result<Progress, AllocError>
     ensures { IfOk result (λ p. p ≡ taken (front_step state equation.now (parts_at equation.now.binders equation.now.left equation.now.right))) }
 {
     match parts_at(alloc, &equation.binders, &equation.left, &equation.right)? {
@@ -348,11 +336,7 @@ fn front_step(
             state.equations.put_all_first(parts)?;
             match unified_types(alloc, left, right)? {
                 None => Ok(Progress::Ended(Answer::No)),
-                Some(types) => Ok(Progress::Going(retyped_state(
-                    alloc,
-                    types.as_slice(),
-                    state,
-                )?)),
+                Some(types) => Ok(Progress::Going(retyped_state(alloc, types.as_slice(), state)?)),
             }
         }
     }

@@ -1,4 +1,4 @@
-use Rattle.std.proofs.Common.{◌≡◌, map, take}
+use Rattle.std.proofs.Common.{◌≡◌, take}
 use Rattle.isa_unify.proofs.filling.retyped_types.Given as goal
 use Rattle.isa_unify.specs.TypeUnification.{entries_under}
 

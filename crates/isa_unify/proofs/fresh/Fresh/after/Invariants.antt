@@ -1,4 +1,4 @@
-use Rattle.std.proofs.Common.{◌≡◌, ◌≤◌, max, drop}
+use Rattle.std.proofs.Common.{◌≡◌, max, drop}
 use Rattle.isa_unify.specs.Calls.{past_all}
 use Rattle.isa_unify.proofs.fresh.Fresh.after.Given as goal
 
