@@ -52,7 +52,7 @@ up_hits r zero (suc n) = refl
 up_hits r (suc k) zero = refl
 up_hits r (suc k) (suc n) = up_hits r k n
 
-has-up : (r : ℕ → ℕ) (k : ℕ) (t : Erased) → has k (ren (upk k (up r)) t) ≡ has k t
+pub has-up : (r : ℕ → ℕ) (k : ℕ) (t : Erased) → has k (ren (upk k (up r)) t) ≡ has k t
 has-up r k (Atom c) = refl
 has-up r k (Var n) = up_hits r k n
 has-up r k (Lam b) = has-up r (suc k) b

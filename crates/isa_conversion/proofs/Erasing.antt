@@ -34,7 +34,7 @@ up_raised_by n k i false false h l = omega arith
 up_raised_by n k i true false h l = let lt : i < k = grind (arith, nat_tests) in let ge : k + 1 ≤ suc i = grind (arith, nat_tests) in absurd (omega arith)
 up_raised_by n k i false true h l = let ge : k ≤ i = grind (arith, nat_tests) in let lt : suc i < k + 1 = grind (arith, nat_tests) in absurd (omega arith)
 
-up_raised : (n k : ℕ) → Same (up (raised n k)) (raised n (k + 1))
+pub up_raised : (n k : ℕ) → Same (up (raised n k)) (raised n (k + 1))
 up_raised n k zero = let t : nat_lt 0 (k + 1) ≡ true = grind (arith, nat_tests) in sym (ap (λ b. cond b 0 (0 + n)) t)
 up_raised n k (suc i) = up_raised_by n k i (nat_lt i k) (nat_lt (suc i) (k + 1)) refl refl
 
@@ -55,14 +55,20 @@ erase_raise n k (App f a) = λ i. Ap (erase_raise n k f i) (erase_raise n k a i)
 abbrev pub placed : Erased → ℕ → ℕ → Erased
 placed a k i = cond (nat_eq i k) (ren (raised k 0) a) (cond (nat_lt k i) (Var (i - 1)) (Var i))
 
+pub raised_again : (k i : ℕ) → next (raised k 0 i) ≡ raised (k + 1) 0 i
+raised_again k i =
+    let t : nat_lt i 0 ≡ false = grind (arith, nat_tests) in
+    let e : suc (i + k) ≡ i + (k + 1) = omega arith in
+    ap (λ b. suc (cond b i (i + k))) t ∙ e ∙ sym (ap (λ b. cond b i (i + (k + 1))) t)
+
+pub eq_more : (i k : ℕ) (b c : Bool) → nat_eq i k ≡ b → nat_eq (suc i) (k + 1) ≡ c → b ≡ c
+eq_more i k true true h l = refl
+eq_more i k false false h l = refl
+eq_more i k true false h l = let e : i ≡ k = grind (arith, nat_tests) in let n : suc i ≢ k + 1 = grind (arith, nat_tests) in absurd (omega arith)
+eq_more i k false true h l = let n : i ≢ k = grind (arith, nat_tests) in let e : suc i ≡ k + 1 = grind (arith, nat_tests) in absurd (omega arith)
+
 raised_more : (k : ℕ) (a : Erased) → ren next (ren (raised k 0) a) ≡ ren (raised (k + 1) 0) a
-raised_more k a = ren-ren next (raised k 0) a ∙ ren_same _ _ (λ i. same i) a
-  where
-    same : (i : ℕ) → next (raised k 0 i) ≡ raised (k + 1) 0 i
-    same i =
-        let t : nat_lt i 0 ≡ false = grind (arith, nat_tests) in
-        let e : suc (i + k) ≡ i + (k + 1) = omega arith in
-        ap (λ b. suc (cond b i (i + k))) t ∙ e ∙ sym (ap (λ b. cond b i (i + (k + 1))) t)
+raised_more k a = ren-ren next (raised k 0) a ∙ ren_same _ _ (raised_again k) a
 
 renamed_choice : (b : Bool) (i : ℕ) → ren next (cond b (Var (i - 1)) (Var i)) ≡ cond b (Var (suc (i - 1))) (Var (suc i))
 renamed_choice true i = refl
@@ -81,14 +87,8 @@ lift_placed a k zero =
     let l : nat_lt (k + 1) 0 ≡ false = grind (arith, nat_tests) in
     sym (ap (λ b. cond b (ren (raised (k + 1) 0) a) (cond (nat_lt (k + 1) 0) (Var (0 - 1)) (Var 0))) e ∙ ap (λ b. cond b (Var (0 - 1)) (Var 0)) l)
 lift_placed a k (suc i) =
-    let e : nat_eq i k ≡ nat_eq (suc i) (k + 1) = same i (nat_eq i k) (nat_eq (suc i) (k + 1)) refl refl in
+    let e : nat_eq i k ≡ nat_eq (suc i) (k + 1) = eq_more i k (nat_eq i k) (nat_eq (suc i) (k + 1)) refl refl in
     lift_placed_by a k i (nat_eq i k) (nat_lt k i) (nat_lt (k + 1) (suc i)) refl refl refl ∙ ap (λ b. cond b (ren (raised (k + 1) 0) a) (cond (nat_lt (k + 1) (suc i)) (Var (suc i - 1)) (Var (suc i)))) e
-  where
-    same : (i : ℕ) (b c : Bool) → nat_eq i k ≡ b → nat_eq (suc i) (k + 1) ≡ c → b ≡ c
-    same i true true h l = refl
-    same i false false h l = refl
-    same i true false h l = let e : i ≡ k = grind (arith, nat_tests) in let n : suc i ≢ k + 1 = grind (arith, nat_tests) in absurd (omega arith)
-    same i false true h l = let n : i ≢ k = grind (arith, nat_tests) in let e : suc i ≡ k + 1 = grind (arith, nat_tests) in absurd (omega arith)
 
 erase_either : (b : Bool) (t u : Tm) → erase (cond b t u) ≡ cond b (erase t) (erase u)
 erase_either true t u = refl
@@ -104,7 +104,7 @@ erase_put a k (Bound i) =
 erase_put a k (Abs x T b) = ap Lam (erase_put a (k + 1) b ∙ sym (sub_same _ _ (lift_placed (erase a) k) (erase b)))
 erase_put a k (App f b) = λ i. Ap (erase_put a k f i) (erase_put a k b i)
 
-raised_none : (k : ℕ) (i : ℕ) → raised 0 0 i ≡ i
+pub raised_none : (k : ℕ) (i : ℕ) → raised 0 0 i ≡ i
 raised_none k i = let e : i + 0 ≡ i = omega arith in ap (λ b. cond b i (i + 0)) (below i) ∙ e
   where
     below : (i : ℕ) → nat_lt i 0 ≡ false
@@ -134,7 +134,7 @@ placed_first a (suc n) =
 pub erase_replace : (b a : Tm) → erase (replace b a) ≡ sub (first (erase a)) (erase b)
 erase_replace b a = erase_put a 0 b ∙ sub_same _ _ (placed_first (erase a)) (erase b)
 
-raised_next : Same (raised 1 0) next
+pub raised_next : Same (raised 1 0) next
 raised_next i =
     let t : nat_lt i 0 ≡ false = grind (arith, nat_tests) in
     let e : i + 1 ≡ suc i = omega arith in

@@ -11,3 +11,14 @@ pub mod Erasing
 pub mod Unique
 pub mod Names
 pub mod Laws
+pub mod Instances
+pub mod Composing
+pub mod Renames
+pub mod Opening
+pub mod Heads
+pub mod Loose
+pub mod RenamedNormal
+pub mod Abstracting
+pub mod Valuations
+pub mod Size
+pub mod Pruning

@@ -1,3 +1,4 @@
 pub mod Typed
 pub mod Conversion
+pub mod Instances
 pub mod Laws

@@ -3,6 +3,7 @@
 
 ghost use Rattle.isa_conversion.specs.Laws.{TypesAreGiven, NormalFormsAreNormal, NormalTermsStay, NormalisingIsIdempotent};
 ghost use Rattle.isa_conversion.specs.Laws.{TermsConvertToNormalForms, NormalFormsAreUnique, ApplicationIsReplacement};
+ghost use Rattle.isa_conversion.specs.Laws.{InstancesKeepTypes, InstancesKeepConversion, InstancesOfNormalForms, InstancesComposeByParts, InstancesCompose};
 
 /// The type that a term's parts give it is the one that the rules of typing give it.
 #[tactic(auto, using(crate::proofs::Laws::types_are_given_law))]
@@ -44,4 +45,35 @@ pub fn normal_forms_are_unique()
 #[tactic(auto, using(crate::proofs::Laws::application_is_replacement_law))]
 pub fn application_is_replacement()
     ensures { ApplicationIsReplacement }
+{}
+
+/// An instance that keeps types gives a well-typed term a well-typed one, of the type's instance.
+#[tactic(auto, using(crate::proofs::Laws::instances_keep_types_law))]
+pub fn instances_keep_types()
+    ensures { InstancesKeepTypes }
+{}
+
+/// Convertible terms have convertible instances.
+#[tactic(auto, using(crate::proofs::Laws::instances_keep_conversion_law))]
+pub fn instances_keep_conversion()
+    ensures { InstancesKeepConversion }
+{}
+
+/// Normalising before an instance does not change the normal form of the instance.
+#[tactic(auto, using(crate::proofs::Laws::instances_of_normal_forms_law))]
+pub fn instances_of_normal_forms()
+    ensures { InstancesOfNormalForms }
+{}
+
+/// An instance that does on each type and unknown of a term what two instances do in turn, does so
+/// on the term.
+#[tactic(auto, using(crate::proofs::Laws::instances_compose_by_parts_law))]
+pub fn instances_compose_by_parts()
+    ensures { InstancesComposeByParts }
+{}
+
+/// One instance and then another are one instance of given terms, which keeps types where both do.
+#[tactic(auto, using(crate::proofs::Laws::instances_compose_law))]
+pub fn instances_compose()
+    ensures { InstancesCompose }
 {}

@@ -16,27 +16,27 @@ use Rattle.isa_conversion.proofs.Conv.{Conv, CRefl, CSym, CTrans, CApp, CAbs, CB
 use Rattle.isa_kernel.proofs.Fill.{Var, types, fill, fill_put, fill_raise, fill_typed, bare_typed, raise_closed, IsNew, close_fill, longest, longest_of, occurs_longer, new_longer}
 
 -- the term with variables for its binders, without names
-abbrev shut : List Var → Tm → Tm
+abbrev pub shut : List Var → Tm → Tm
 shut vs t = fill vs 0 (bare t)
 
-shut_typed : (vs : List Var) {G : List Ty} {t : Tm} {T : Ty} → types vs ≡ G → Typed G t T → Typed [] (shut vs t) T
+pub shut_typed : (vs : List Var) {G : List Ty} {t : Tm} {T : Ty} → types vs ≡ G → Typed G t T → Typed [] (shut vs t) T
 shut_typed vs e d = fill_typed [] vs (sym e) (bare_typed d)
 
 -- a name that is longer than those of two terms and of the variables
-new_name : Tm → Tm → List Var → List ℕ
+pub new_name : Tm → Tm → List Var → List ℕ
 new_name t u vs = replicate (longest t + longest u + longest_of vs + 1) 0
 
-new_length : (t u : Tm) (vs : List Var) → length (new_name t u vs) ≡ longest t + longest u + longest_of vs + 1
+pub new_length : (t u : Tm) (vs : List Var) → length (new_name t u vs) ≡ longest t + longest u + longest_of vs + 1
 unfolding new_name
 new_length t u vs = length-replicate (longest t + longest u + longest_of vs + 1) 0
 
-has_type : {t : Tm} {T : Ty} → Typed [] t T → HasType t T
+pub has_type : {t : Tm} {T : Ty} → Typed [] t T → HasType t T
 has_type d = type_of_typed d
 
-abbrev EqTree : Ty → Tm → Tm → Type 0
+abbrev pub EqTree : Ty → Tm → Tm → Type 0
 EqTree T t u = Tree [] [] (eq T t u)
 
-abs_tree : (vs : List Var) (S T : Ty) (b c : Tm) (z : List ℕ) → longest b + longest c + longest_of vs < length z → EqTree T (fill ((z, S) ∷ vs) 0 b) (fill ((z, S) ∷ vs) 0 c) → EqTree (function_of S T) (Abs [] S (fill vs 1 b)) (Abs [] S (fill vs 1 c))
+pub abs_tree : (vs : List Var) (S T : Ty) (b c : Tm) (z : List ℕ) → longest b + longest c + longest_of vs < length z → EqTree T (fill ((z, S) ∷ vs) 0 b) (fill ((z, S) ∷ vs) 0 c) → EqTree (function_of S T) (Abs [] S (fill vs 1 b)) (Abs [] S (fill vs 1 c))
 abs_tree vs S T b c z l d =
     let new = new_longer z S vs (omega arith) in
     let at_b = close_fill z S vs 0 b (occurs_longer z S b (omega arith)) new in
@@ -61,7 +61,7 @@ closed_tree (CEta {G} {x} {S} {T} {f} d) vs e =
     let raised : fill vs 1 (bare (raise 1 0 f)) ≡ shut vs f = ap (fill vs 1) (raise_bare 1 0 f) ∙ fill_raise vs 1 0 (bare f) ∙ raise_closed 1 f_typed in
     subst (λ g. EqTree (function_of S T) (Abs [] S (App g (Bound 0))) (shut vs f)) (sym raised) (Eta (has_type f_typed))
 
-fill_none : (k : ℕ) (t : Tm) → fill [] k t ≡ t
+pub fill_none : (k : ℕ) (t : Tm) → fill [] k t ≡ t
 fill_none k (Const x T) = refl
 fill_none k (Free x T) = refl
 fill_none k (Unknown x i T) = refl

@@ -32,24 +32,24 @@ fill vs k (Bound i) = cond (nat_lt i k) (Bound i) (filled i (slice_get vs (i - k
 fill vs k (Abs x T b) = Abs x T (fill vs (k + 1) b)
 fill vs k (App f a) = App (fill vs k f) (fill vs k a)
 
-test_lt : (i k : ℕ) → i < k → nat_lt i k ≡ true
+pub test_lt : (i k : ℕ) → i < k → nat_lt i k ≡ true
 test_lt i k h = grind (arith, nat_tests)
 
-test_ge : (i k : ℕ) → k ≤ i → nat_lt i k ≡ false
+pub test_ge : (i k : ℕ) → k ≤ i → nat_lt i k ≡ false
 test_ge i k h = grind (arith, nat_tests)
 
-fill_below : (vs : List Var) (k i : ℕ) → i < k → fill vs k (Bound i) ≡ Bound i
+pub fill_below : (vs : List Var) (k i : ℕ) → i < k → fill vs k (Bound i) ≡ Bound i
 fill_below vs k i h = ap (λ v. cond v (Bound i) (filled i (slice_get vs (i - k)))) (test_lt i k h)
 
-fill_above : (vs : List Var) (k i : ℕ) → k ≤ i → fill vs k (Bound i) ≡ filled i (slice_get vs (i - k))
+pub fill_above : (vs : List Var) (k i : ℕ) → k ≤ i → fill vs k (Bound i) ≡ filled i (slice_get vs (i - k))
 fill_above vs k i h = ap (λ v. cond v (Bound i) (filled i (slice_get vs (i - k)))) (test_ge i k h)
 
 -- ---- raising
-raise_filled : (j m i : ℕ) (o : Option Var) → m ≤ i → filled (i + j) o ≡ raise j m (filled i o)
+pub raise_filled : (j m i : ℕ) (o : Option Var) → m ≤ i → filled (i + j) o ≡ raise j m (filled i o)
 raise_filled j m i None h = ap (λ v. cond v (Bound i) (Bound (i + j))) (sym (test_ge i m h))
 raise_filled j m i (Some v) h = refl
 
-fill_raise_bound : (vs : List Var) (j m i : ℕ) (b : Bool) → nat_lt i m ≡ b → fill vs (m + j) (cond b (Bound i) (Bound (i + j))) ≡ raise j m (cond b (Bound i) (filled i (slice_get vs (i - m))))
+pub fill_raise_bound : (vs : List Var) (j m i : ℕ) (b : Bool) → nat_lt i m ≡ b → fill vs (m + j) (cond b (Bound i) (Bound (i + j))) ≡ raise j m (cond b (Bound i) (filled i (slice_get vs (i - m))))
 fill_raise_bound vs j m i true h =
     let lt : i < m = grind (arith, nat_tests) in
     fill_below vs (m + j) i (omega arith) ∙ ap (λ v. cond v (Bound i) (Bound (i + j))) (sym (test_lt i m lt))
@@ -67,14 +67,14 @@ fill_raise vs j m (Abs x T b) = let k : (m + j) + 1 ≡ (m + 1) + j = omega arit
 fill_raise vs j m (App f a) = λ i. App (fill_raise vs j m f i) (fill_raise vs j m a i)
 
 -- ---- replacement
-put_filled : (vs : List Var) (c : Tm) (j i : ℕ) (o : Option Var) → j < i → filled (i - 1) o ≡ put c j (filled i o)
+pub put_filled : (vs : List Var) (c : Tm) (j i : ℕ) (o : Option Var) → j < i → filled (i - 1) o ≡ put c j (filled i o)
 put_filled vs c j i None h =
     let e : nat_eq i j ≡ false = grind (arith, nat_tests) in
     let l : nat_lt j i ≡ true = grind (arith, nat_tests) in
     sym (ap (λ v. cond v (raise j 0 c) (cond (nat_lt j i) (Bound (i - 1)) (Bound i))) e ∙ ap (λ v. cond v (Bound (i - 1)) (Bound i)) l)
 put_filled vs c j i (Some v) h = refl
 
-fill_put_bound : (vs : List Var) (a : Tm) (j i : ℕ) (b d : Bool) → nat_eq i j ≡ b → nat_lt j i ≡ d → fill vs j (cond b (raise j 0 a) (cond d (Bound (i - 1)) (Bound i))) ≡ put (fill vs 0 a) j (fill vs (j + 1) (Bound i))
+pub fill_put_bound : (vs : List Var) (a : Tm) (j i : ℕ) (b d : Bool) → nat_eq i j ≡ b → nat_lt j i ≡ d → fill vs j (cond b (raise j 0 a) (cond d (Bound (i - 1)) (Bound i))) ≡ put (fill vs 0 a) j (fill vs (j + 1) (Bound i))
 fill_put_bound vs a j i true d h l =
     let at : i ≡ j = grind (arith, nat_tests) in
     let z : 0 + j ≡ j = omega arith in
@@ -103,26 +103,26 @@ fill_put vs a j (Abs x T b) = ap (Abs x T) (fill_put vs a (j + 1) b)
 fill_put vs a j (App f b) = λ i. App (fill_put vs a j f i) (fill_put vs a j b i)
 
 -- ---- typing
-fill_some : (K : List Ty) (vs : List Var) (n : ℕ) (T : Ty) → slice_get (types vs) n ≡ Some T → (i : ℕ) → Typed K (filled i (slice_get vs n)) T
+pub fill_some : (K : List Ty) (vs : List Var) (n : ℕ) (T : Ty) → slice_get (types vs) n ≡ Some T → (i : ℕ) → Typed K (filled i (slice_get vs n)) T
 fill_some K [] n T e i = cc
 fill_some K (v ∷ vs) zero T e i = let q : v.1 ≡ T = cc in subst (λ U. Typed K (Free v.0 v.1) U) q TFree
 fill_some K (v ∷ vs) (suc n) T e i = fill_some K vs n T e i
 
-get_past : (P Q : List Ty) (n : ℕ) → length P ≤ n → slice_get (P ++ Q) n ≡ slice_get Q (n - length P)
+pub get_past : (P Q : List Ty) (n : ℕ) → length P ≤ n → slice_get (P ++ Q) n ≡ slice_get Q (n - length P)
 get_past [] Q n h = let e : n ≡ n - 0 = omega arith in ap (slice_get Q) e
 get_past (S ∷ P) Q zero h = absurd (omega arith)
 get_past (S ∷ P) Q (suc n) h = let e : n - length P ≡ suc n - suc (length P) = omega arith in get_past P Q n (omega arith) ∙ ap (slice_get Q) e
 
-get_own : (P Q : List Ty) (n : ℕ) → n < length P → slice_get (P ++ Q) n ≡ slice_get P n
+pub get_own : (P Q : List Ty) (n : ℕ) → n < length P → slice_get (P ++ Q) n ≡ slice_get P n
 get_own [] Q n h = absurd (omega arith)
 get_own (S ∷ P) Q zero h = refl
 get_own (S ∷ P) Q (suc n) h = get_own P Q n (omega arith)
 
-fill_bound : (P : List Ty) (vs : List Var) (n : ℕ) (T : Ty) (b : Bool) → nat_lt n (length P) ≡ b → slice_get (P ++ types vs) n ≡ Some T → Typed P (cond b (Bound n) (filled n (slice_get vs (n - length P)))) T
+pub fill_bound : (P : List Ty) (vs : List Var) (n : ℕ) (T : Ty) (b : Bool) → nat_lt n (length P) ≡ b → slice_get (P ++ types vs) n ≡ Some T → Typed P (cond b (Bound n) (filled n (slice_get vs (n - length P)))) T
 fill_bound P vs n T true h e = let lt : n < length P = grind (arith, nat_tests) in TBound (sym (get_own P (types vs) n lt) ∙ e)
 fill_bound P vs n T false h e = let le : length P ≤ n = grind (arith, nat_tests) in fill_some P vs (n - length P) T (sym (get_past P (types vs) n le) ∙ e) n
 
-one_more : (n : ℕ) → suc n ≡ n + 1
+pub one_more : (n : ℕ) → suc n ≡ n + 1
 one_more n = omega arith
 
 pub fill_typed : (P : List Ty) (vs : List Var) {G : List Ty} {t : Tm} {T : Ty} → G ≡ P ++ types vs → Typed G t T → Typed P (fill vs (length P) t) T
@@ -141,7 +141,7 @@ bare_typed (TBound h) = TBound h
 bare_typed (TAbs d) = TAbs (bare_typed d)
 bare_typed (TApp d e) = TApp (bare_typed d) (bare_typed e)
 
-within_length : (P : List Ty) (n : ℕ) (T : Ty) → slice_get P n ≡ Some T → n < length P
+pub within_length : (P : List Ty) (n : ℕ) (T : Ty) → slice_get P n ≡ Some T → n < length P
 within_length [] n T e = cc
 within_length (S ∷ P) zero T e = omega arith
 within_length (S ∷ P) (suc n) T e = omega (arith, within_length P n T e)
@@ -161,15 +161,15 @@ abbrev pub IsNew : List ℕ → Ty → List Var → Type 0
 IsNew x S [] = Unit {0}
 IsNew x S (v ∷ vs) = ((name_eq x v.0 && ty_eq S v.1) ≡ false) × IsNew x S vs
 
-close_later : (x : List ℕ) (S : Ty) (vs : List Var) (k n i : ℕ) → IsNew x S vs → close_at x S k (filled i (slice_get vs n)) ≡ filled i (slice_get vs n)
+pub close_later : (x : List ℕ) (S : Ty) (vs : List Var) (k n i : ℕ) → IsNew x S vs → close_at x S k (filled i (slice_get vs n)) ≡ filled i (slice_get vs n)
 close_later x S [] k n i h = refl
 close_later x S (v ∷ vs) k zero i h = ap (λ b. cond b (Bound k) (Free v.0 v.1)) h.0
 close_later x S (v ∷ vs) k (suc n) i h = close_later x S vs k n i h.1
 
-close_here : (x : List ℕ) (S : Ty) (k i : ℕ) → close_at x S k (filled i (Some (x, S))) ≡ Bound k
+pub close_here : (x : List ℕ) (S : Ty) (k i : ℕ) → close_at x S k (filled i (Some (x, S))) ≡ Bound k
 close_here x S k i = (λ j. cond ((bytes_decides x x).1 refl j && (ty_decides S S).1 refl j) (Bound k) (Free x S))
 
-close_bound : (x : List ℕ) (S : Ty) (vs : List Var) (k i : ℕ) (b c : Bool) → nat_lt i k ≡ b → nat_eq i k ≡ c → IsNew x S vs → close_at x S k (cond b (Bound i) (filled i (slice_get ((x, S) ∷ vs) (i - k)))) ≡ fill vs (k + 1) (Bound i)
+pub close_bound : (x : List ℕ) (S : Ty) (vs : List Var) (k i : ℕ) (b c : Bool) → nat_lt i k ≡ b → nat_eq i k ≡ c → IsNew x S vs → close_at x S k (cond b (Bound i) (filled i (slice_get ((x, S) ∷ vs) (i - k)))) ≡ fill vs (k + 1) (Bound i)
 close_bound x S vs k i true c h l n = let lt : i < k = grind (arith, nat_tests) in sym (fill_below vs (k + 1) i (omega arith))
 close_bound x S vs k i false true h l n =
     let at : i ≡ k = grind (arith, nat_tests) in
@@ -181,7 +181,7 @@ close_bound x S vs k i false false h l n =
     let z : i - k ≡ suc (i - (k + 1)) = omega arith in
     ap (λ m. close_at x S k (filled i (slice_get ((x, S) ∷ vs) m))) z ∙ close_later x S vs k (i - (k + 1)) i n ∙ sym (fill_above vs (k + 1) i (omega arith))
 
-or_false : (a b : Bool) → (a || b) ≡ false → (a ≡ false) × (b ≡ false)
+pub or_false : (a b : Bool) → (a || b) ≡ false → (a ≡ false) × (b ≡ false)
 or_false true b e = cc
 or_false false b e = (refl, e)
 
@@ -207,7 +207,7 @@ abbrev pub longest_of : List Var → ℕ
 longest_of [] = 0
 longest_of (v ∷ vs) = length v.0 + longest_of vs
 
-longer_name : (x y : List ℕ) (c b : Bool) → name_eq x y ≡ b → length y < length x → (b && c) ≡ false
+pub longer_name : (x y : List ℕ) (c b : Bool) → name_eq x y ≡ b → length y < length x → (b && c) ≡ false
 longer_name x y c true h l = let e = (bytes_decides x y).0 h in absurd (omega (arith, ap length e))
 longer_name x y c false h l = refl
 

@@ -19,23 +19,23 @@ use Rattle.isa_conversion.proofs.Typed.{Typed, TConst, TFree, TUnknown, TBound, 
 use Rattle.isa_kernel.proofs.Fill.{raise_closed}
 
 -- ---- closing keeps types
-get_first : (P Q : List Ty) (n : ℕ) (T : Ty) → slice_get P n ≡ Some T → slice_get (P ++ Q) n ≡ Some T
+pub get_first : (P Q : List Ty) (n : ℕ) (T : Ty) → slice_get P n ≡ Some T → slice_get (P ++ Q) n ≡ Some T
 get_first [] Q n T e = cc
 get_first (S ∷ P) Q zero T e = e
 get_first (S ∷ P) Q (suc n) T e = get_first P Q n T e
 
-get_last : (P : List Ty) (S : Ty) → slice_get (P ++ S ∷ []) (length P) ≡ Some S
+pub get_last : (P : List Ty) (S : Ty) → slice_get (P ++ S ∷ []) (length P) ≡ Some S
 get_last [] S = refl
 get_last (T ∷ P) S = get_last P S
 
-one_more : (n : ℕ) → suc n ≡ n + 1
+pub one_more : (n : ℕ) → suc n ≡ n + 1
 one_more n = omega arith
 
-and_true : (a b : Bool) → (a && b) ≡ true → (a ≡ true) × (b ≡ true)
+pub and_true : (a b : Bool) → (a && b) ≡ true → (a ≡ true) × (b ≡ true)
 and_true true b e = (refl, e)
 and_true false b e = cc
 
-close_free : (P : List Ty) (x y : List ℕ) (S T : Ty) (b : Bool) → (name_eq x y && ty_eq S T) ≡ b → Typed (P ++ S ∷ []) (cond b (Bound (length P)) (Free y T)) T
+pub close_free : (P : List Ty) (x y : List ℕ) (S T : Ty) (b : Bool) → (name_eq x y && ty_eq S T) ≡ b → Typed (P ++ S ∷ []) (cond b (Bound (length P)) (Free y T)) T
 close_free P x y S T true e = let q = (ty_decides S T).0 (and_true (name_eq x y) (ty_eq S T) e).1 in TBound (get_last P S ∙ ap Some q)
 close_free P x y S T false e = TFree
 
@@ -49,45 +49,45 @@ close_typed P x S (TApp d e) = TApp (close_typed P x S d) (close_typed P x S e)
 
 -- ---- the parts of propositions
 module _ {G : List Ty} where
-  imp_typed : {p q : Tm} → Typed G p prop → Typed G q prop → Typed G (imp p q) prop
+  pub imp_typed : {p q : Tm} → Typed G p prop → Typed G q prop → Typed G (imp p q) prop
   imp_typed d e = TApp (TApp TConst d) e
 
-  eq_typed : {T : Ty} {t u : Tm} → Typed G t T → Typed G u T → Typed G (eq T t u) prop
+  pub eq_typed : {T : Ty} {t u : Tm} → Typed G t T → Typed G u T → Typed G (eq T t u) prop
   eq_typed d e = TApp (TApp TConst d) e
 
-  all_typed : {x : List ℕ} {T : Ty} {b : Tm} → Typed (T ∷ G) b prop → Typed G (all x T b) prop
+  pub all_typed : {x : List ℕ} {T : Ty} {b : Tm} → Typed (T ∷ G) b prop → Typed G (all x T b) prop
   all_typed d = TApp TConst (TAbs d)
 
-app_typed : {G : List Ty} {f a : Tm} {T : Ty} → Typed G (App f a) T → (S : Ty) × Typed G f (function_of S T) × Typed G a S
+pub app_typed : {G : List Ty} {f a : Tm} {T : Ty} → Typed G (App f a) T → (S : Ty) × Typed G f (function_of S T) × Typed G a S
 app_typed (TApp {S} d e) = (S, d, e)
 
-const_typed : {G : List Ty} {x : List ℕ} {T U : Ty} → Typed G (Const x T) U → T ≡ U
+pub const_typed : {G : List Ty} {x : List ℕ} {T U : Ty} → Typed G (Const x T) U → T ≡ U
 const_typed TConst = refl
 
-abs_typed : {G : List Ty} {x : List ℕ} {S : Ty} {b : Tm} {U : Ty} → Typed G (Abs x S b) U → (T : Ty) × (U ≡ function_of S T) × Typed (S ∷ G) b T
+pub abs_typed : {G : List Ty} {x : List ℕ} {S : Ty} {b : Tm} {U : Ty} → Typed G (Abs x S b) U → (T : Ty) × (U ≡ function_of S T) × Typed (S ∷ G) b T
 abs_typed (TAbs {T} d) = (T, refl, d)
 
-function_first : {A B C D : Ty} → function_of A B ≡ function_of C D → A ≡ C
+pub function_first : {A B C D : Ty} → function_of A B ≡ function_of C D → A ≡ C
 function_first e = cc (e)
 
-function_second : {A B C D : Ty} → function_of A B ≡ function_of C D → B ≡ D
+pub function_second : {A B C D : Ty} → function_of A B ≡ function_of C D → B ≡ D
 function_second e = cc (e)
 
 -- the two arguments of a constant of type `A => B => C`
-binary_typed : {G : List Ty} {x : List ℕ} {A B C : Ty} {t u : Tm} {T : Ty} → Typed G (App (App (Const x (function_of A (function_of B C))) t) u) T → Typed G t A × Typed G u B
+pub binary_typed : {G : List Ty} {x : List ℕ} {A B C : Ty} {t u : Tm} {T : Ty} → Typed G (App (App (Const x (function_of A (function_of B C))) t) u) T → Typed G t A × Typed G u B
 binary_typed {G} {x} {A} {B} {C} {t} {u} {T} d =
     let outer = app_typed d in
     let inner = app_typed outer.1 in
     let c : function_of A (function_of B C) ≡ function_of inner.0 (function_of outer.0 T) = const_typed inner.1 in
     (subst (λ S. Typed G t S) (sym (function_first c)) inner.2, subst (λ S. Typed G u S) (sym (function_first (function_second c))) outer.2)
 
-imp_both : {p q : Tm} {T : Ty} → Typed [] (imp p q) T → Typed [] p prop × Typed [] q prop
+pub imp_both : {p q : Tm} {T : Ty} → Typed [] (imp p q) T → Typed [] p prop × Typed [] q prop
 imp_both d = binary_typed d
 
-eq_both : {S : Ty} {t u : Tm} {T : Ty} → Typed [] (eq S t u) T → Typed [] t S × Typed [] u S
+pub eq_both : {S : Ty} {t u : Tm} {T : Ty} → Typed [] (eq S t u) T → Typed [] t S × Typed [] u S
 eq_both d = binary_typed d
 
-all_body : {x : List ℕ} {S : Ty} {b : Tm} {T : Ty} → Typed [] (all x S b) T → Typed (S ∷ []) b prop
+pub all_body : {x : List ℕ} {S : Ty} {b : Tm} {T : Ty} → Typed [] (all x S b) T → Typed (S ∷ []) b prop
 all_body {x} {S} {b} {T} d =
     let outer = app_typed d in
     let c : function_of (function_of S prop) prop ≡ function_of outer.0 T = const_typed outer.1 in
@@ -95,15 +95,15 @@ all_body {x} {S} {b} {T} d =
     let f : function_of S prop ≡ function_of S body.0 = function_first c ∙ body.1 in
     subst (λ U. Typed (S ∷ []) b U) (sym (function_second f)) body.2
 
-is : {t : Tm} {T : Ty} → HasType t T → Typed [] t T
+pub is : {t : Tm} {T : Ty} → HasType t T → Typed [] t T
 is {t} {T} h = typed_of_type [] t T h
 
 -- ---- instances keep types
-abbrev inst_all : List TypeEntry → List Ty → List Ty
+abbrev pub inst_all : List TypeEntry → List Ty → List Ty
 inst_all es [] = []
 inst_all es (T ∷ Ts) = inst_ty es T ∷ inst_all es Ts
 
-get_inst : (es : List TypeEntry) (G : List Ty) (n : ℕ) (T : Ty) → slice_get G n ≡ Some T → slice_get (inst_all es G) n ≡ Some (inst_ty es T)
+pub get_inst : (es : List TypeEntry) (G : List Ty) (n : ℕ) (T : Ty) → slice_get G n ≡ Some T → slice_get (inst_all es G) n ≡ Some (inst_ty es T)
 get_inst es [] n T e = cc
 get_inst es (S ∷ G) zero T e = let q : S ≡ T = cc in ap (λ U. Some (inst_ty es U)) q
 get_inst es (S ∷ G) (suc n) T e = get_inst es G n T e
@@ -112,7 +112,7 @@ get_inst es (S ∷ G) (suc n) T e = get_inst es G n T e
 pub closed_anywhere : {t : Tm} {T : Ty} (G : List Ty) → Typed [] t T → Typed G t T
 closed_anywhere {t} {T} G d = subst (λ K. Typed K t T) (append-nil G) (subst (λ g. Typed (G ++ []) g T) (raise_closed (length G) d) (raise_typed [] G [] refl d))
 
-unknown_typed : (es : List TypeEntry) (fs : List TermEntry) (G : List Ty) (x : List ℕ) (i : ℕ) (T : Ty) → IsKept es fs → Typed G (unwrap_or (find_term x i T fs) (Unknown x i (inst_ty es T))) (inst_ty es T)
+pub unknown_typed : (es : List TypeEntry) (fs : List TermEntry) (G : List Ty) (x : List ℕ) (i : ℕ) (T : Ty) → IsKept es fs → Typed G (unwrap_or (find_term x i T fs) (Unknown x i (inst_ty es T))) (inst_ty es T)
 unknown_typed es [] G x i T k = TUnknown
 unknown_typed es (f ∷ fs) G x i T k = found (name_eq x f.name) (nat_eq i f.number) (ty_eq T f.typ) refl (unknown_typed es fs G x i T k.1)
   where
@@ -131,16 +131,16 @@ inst_typed es fs k (TAbs d) = TAbs (inst_typed es fs k d)
 inst_typed es fs k (TApp d e) = TApp (inst_typed es fs k d) (inst_typed es fs k e)
 
 -- ---- generalising keeps types
-abbrev gen_all : List (List ℕ) → List Ty → List Ty
+abbrev pub gen_all : List (List ℕ) → List Ty → List Ty
 gen_all ns [] = []
 gen_all ns (T ∷ Ts) = gen_ty ns T ∷ gen_all ns Ts
 
-get_gen : (ns : List (List ℕ)) (G : List Ty) (n : ℕ) (T : Ty) → slice_get G n ≡ Some T → slice_get (gen_all ns G) n ≡ Some (gen_ty ns T)
+pub get_gen : (ns : List (List ℕ)) (G : List Ty) (n : ℕ) (T : Ty) → slice_get G n ≡ Some T → slice_get (gen_all ns G) n ≡ Some (gen_ty ns T)
 get_gen ns [] n T e = cc
 get_gen ns (S ∷ G) zero T e = let q : S ≡ T = cc in ap (λ U. Some (gen_ty ns U)) q
 get_gen ns (S ∷ G) (suc n) T e = get_gen ns G n T e
 
-free_gen : (G : List Ty) (x : List ℕ) (T : Ty) (b : Bool) → Typed G (cond b (Unknown x 0 T) (Free x T)) T
+pub free_gen : (G : List Ty) (x : List ℕ) (T : Ty) (b : Bool) → Typed G (cond b (Unknown x 0 T) (Free x T)) T
 free_gen G x T true = TUnknown
 free_gen G x T false = TFree
 

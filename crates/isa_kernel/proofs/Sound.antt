@@ -11,7 +11,7 @@ use Rattle.isa_terms.specs.declared.typing.IllTyped.{IllTyped}
 use Rattle.isa_terms.proofs.Equal.{ty_decides}
 use Rattle.isa_terms.specs.Typing.{HasType}
 use Rattle.isa_kernel.specs.Logic.{prop, imp, eq, all}
-use Rattle.isa_kernel.specs.Forms.{app_parts, abs_parts, is_last, imp_parts, eq_parts, all_parts, free_parts}
+use Rattle.isa_kernel.specs.Forms.{app_parts, abs_parts, is_last, imp_parts, eq_parts, quantifier_parts, free_parts}
 use Rattle.isa_kernel.specs.Theorem.{Theorem, IsDerived}
 use Rattle.isa_kernel.specs.Inferences.{typed_as, has_type, well_typed, assumed, implies_introduced, implies_eliminated, forall_introduced, forall_eliminated, reflexive_at, turned, chained, combined, abstracted, contracted, shortened, equal_introduced, equal_eliminated}
 use Rattle.isa_conversion.proofs.Functions.{cond_some, bind_some, function_made}
@@ -23,19 +23,19 @@ pub cond_none : {A : Type 0} (b : Bool) (o : Option A) {y : A} → cond b None o
 cond_none true o e = cc
 cond_none false o e = (refl, e)
 
-typed_as_is : (r : Result Ty IllTyped) (T : Ty) → typed_as r T ≡ true → r ≡ Ok T
+pub typed_as_is : (r : Result Ty IllTyped) (T : Ty) → typed_as r T ≡ true → r ≡ Ok T
 typed_as_is (Ok S) T e = ap Ok ((ty_decides S T).0 e)
 typed_as_is (Err fault) T e = cc
 
 pub has_type_is : (t : Tm) (T : Ty) → has_type t T ≡ true → HasType t T
 has_type_is t T e = typed_as_is (type_at [] t) T e
 
-well_typed_is : (r : Result Ty IllTyped) (T : Ty) → well_typed r ≡ Some T → r ≡ Ok T
+pub well_typed_is : (r : Result Ty IllTyped) (T : Ty) → well_typed r ≡ Some T → r ≡ Ok T
 well_typed_is (Ok S) T e = cc
 well_typed_is (Err fault) T e = cc
 
 -- the theorem that a Some holds
-derived_some : {th wanted : Theorem} → Some th ≡ Some wanted → IsDerived th → IsDerived wanted
+pub derived_some : {th wanted : Theorem} → Some th ≡ Some wanted → IsDerived th → IsDerived wanted
 derived_some e d = subst (λ x. IsDerived x) (cc (e)) d
 
 pub assumed_sound : (a : Tm) (th : Theorem) → assumed a ≡ Some th → IsDerived th
@@ -62,9 +62,9 @@ forall_introduced_sound x b th e d =
 
 pub forall_eliminated_sound : (t : Tm) (b th : Theorem) → forall_eliminated t b ≡ Some th → IsDerived b → IsDerived th
 forall_eliminated_sound t b th e d =
-    let p = bind_some (all_parts b.prop) _ e in
-    let h = cond_some (has_type t p.0.1) _ p.2 in
-    derived_some h.1 (record { derivation = forall_eliminated_derived b.prop t p.0.0 p.0.1 p.0.2 b.base b.hyps p.1 (has_type_is t p.0.1 h.0) d.derivation })
+    let p = bind_some (quantifier_parts b.prop) _ e in
+    let h = cond_some (has_type t p.0.0) _ p.2 in
+    derived_some h.1 (record { derivation = forall_eliminated_derived b.prop t p.0.0 p.0.1 b.base b.hyps p.1 (has_type_is t p.0.0 h.0) d.derivation })
 
 pub reflexive_sound : (t : Tm) (th : Theorem) → reflexive_at t ≡ Some th → IsDerived th
 reflexive_sound t th e =
@@ -76,7 +76,7 @@ turned_sound b th e d =
     let p = bind_some (eq_parts b.prop) _ e in
     derived_some p.2 (record { derivation = turned_derived b.prop p.0.0 p.0.1 p.0.2 b.base b.hyps p.1 d.derivation })
 
-and_true : (a b : Bool) → (a && b) ≡ true → (a ≡ true) × (b ≡ true)
+pub and_true : (a b : Bool) → (a && b) ≡ true → (a ≡ true) × (b ≡ true)
 and_true true b e = (refl, e)
 and_true false b e = cc
 

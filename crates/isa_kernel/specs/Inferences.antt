@@ -6,15 +6,15 @@ use Rattle.isa_terms.specs.Equal.{ty_eq, tm_eq}
 use Rattle.isa_terms.specs.Typing.{type_at, function_of, function_parts}
 use Rattle.isa_terms.specs.Replace.{replace}
 use Rattle.isa_terms.specs.Binding.{occurs_in, close}
-use Rattle.isa_terms.specs.Instance.{inst_ty, inst_tm, in_tms}
+use Rattle.isa_terms.specs.Instance.{Instance, inst_ty, in_tms, instance_of}
 use Rattle.isa_terms.specs.declared.inst.TypeEntry.{TypeEntry}
 use Rattle.isa_terms.specs.declared.inst.TermEntry.{TermEntry}
-use Rattle.isa_terms.specs.Norm.{norm}
 use Rattle.isa_terms.specs.Generalize.{gen_tm, named_in}
 use Rattle.isa_terms.specs.Sets.{joined, without}
 use Rattle.isa_terms.specs.declared.typing.IllTyped.{IllTyped}
 use Rattle.isa_kernel.specs.Logic.{prop, imp, eq, all}
-use Rattle.isa_kernel.specs.Forms.{◌>>=◌, app_parts, abs_parts, is_last, imp_parts, eq_parts, all_parts, free_parts}
+use Rattle.isa_kernel.specs.Forms.{◌>>=◌, app_parts, abs_parts, is_last, imp_parts, eq_parts, quantifier_parts, at, free_parts}
+use Rattle.isa_kernel.specs.Axioms.{joined_bases}
 use Rattle.isa_kernel.specs.Theorem.{Theorem}
 use Rattle.isa_kernel.specs.declared.inference.InferenceError.{InferenceError}
 use Rattle.isa_kernel.specs.declared.inference.InferenceError.TheVariants.{Shape, Memory}
@@ -63,7 +63,7 @@ implies_introduced a th = if has_type a prop then Some (record { hyps = without 
 abbrev pub implies_eliminated : Theorem → Theorem → Option Theorem
 implies_eliminated ab a = do
   parts ← imp_parts ab.prop
-  if tm_eq parts.0 a.prop then Some (record { hyps = joined ab.hyps a.hyps; prop = parts.1; base = joined ab.base a.base }) else None
+  if tm_eq parts.0 a.prop then Some (record { hyps = joined ab.hyps a.hyps; prop = parts.1; base = joined_bases ab.base a.base }) else None
 
 -- `!!x. B`, for a free variable x that is not in the hypotheses
 abbrev pub forall_introduced : Tm → Theorem → Option Theorem
@@ -71,11 +71,11 @@ forall_introduced x th = do
   var ← free_parts x
   if occurs_in var.0 var.1 th.hyps then None else Some (record { hyps = th.hyps; prop = all var.0 var.1 (close var.0 var.1 th.prop); base = th.base })
 
--- B at t, from `!!x. B` for a t of the type of x
+-- B at t, from `!!x. B` for a t of the type of x; from `!!` over a predicate that is no abstraction, the predicate applied to t
 abbrev pub forall_eliminated : Tm → Theorem → Option Theorem
 forall_eliminated t th = do
-  parts ← all_parts th.prop
-  if has_type t parts.1 then Some (record { hyps = th.hyps; prop = replace parts.2 t; base = th.base }) else None
+  parts ← quantifier_parts th.prop
+  if has_type t parts.0 then Some (record { hyps = th.hyps; prop = at parts.1 t; base = th.base }) else None
 
 -- `t == t`, for a well-typed t
 abbrev pub reflexive_at : Tm → Option Theorem
@@ -94,7 +94,7 @@ abbrev pub chained : Theorem → Theorem → Option Theorem
 chained a b = do
   left ← eq_parts a.prop
   right ← eq_parts b.prop
-  if ty_eq left.0 right.0 && tm_eq left.2 right.1 then Some (record { hyps = joined a.hyps b.hyps; prop = eq left.0 left.1 right.2; base = joined a.base b.base }) else None
+  if ty_eq left.0 right.0 && tm_eq left.2 right.1 then Some (record { hyps = joined a.hyps b.hyps; prop = eq left.0 left.1 right.2; base = joined_bases a.base b.base }) else None
 
 -- `f a == g b`, from `f == g` and `a == b` whose types fit
 abbrev pub combined : Theorem → Theorem → Option Theorem
@@ -102,7 +102,7 @@ combined f a = do
   funs ← eq_parts f.prop
   args ← eq_parts a.prop
   types ← function_parts funs.0
-  if ty_eq types.0 args.0 then Some (record { hyps = joined f.hyps a.hyps; prop = eq types.1 (App funs.1 args.1) (App funs.2 args.2); base = joined f.base a.base }) else None
+  if ty_eq types.0 args.0 then Some (record { hyps = joined f.hyps a.hyps; prop = eq types.1 (App funs.1 args.1) (App funs.2 args.2); base = joined_bases f.base a.base }) else None
 
 -- `(%x. t) == (%x. u)`, from `t == u` for a free variable x that is not in the hypotheses
 abbrev pub abstracted : Tm → Theorem → Option Theorem
@@ -133,22 +133,22 @@ abbrev pub equal_introduced : Theorem → Theorem → Option Theorem
 equal_introduced ab ba = do
   there ← imp_parts ab.prop
   back ← imp_parts ba.prop
-  if tm_eq there.0 back.1 && tm_eq there.1 back.0 then Some (record { hyps = joined ab.hyps ba.hyps; prop = eq prop there.0 there.1; base = joined ab.base ba.base }) else None
+  if tm_eq there.0 back.1 && tm_eq there.1 back.0 then Some (record { hyps = joined ab.hyps ba.hyps; prop = eq prop there.0 there.1; base = joined_bases ab.base ba.base }) else None
 
 -- B, from `A == B` and A
 abbrev pub equal_eliminated : Theorem → Theorem → Option Theorem
 equal_eliminated e a = do
   parts ← eq_parts e.prop
-  if ty_eq parts.0 prop && tm_eq parts.1 a.prop then Some (record { hyps = joined e.hyps a.hyps; prop = parts.2; base = joined e.base a.base }) else None
+  if ty_eq parts.0 prop && tm_eq parts.1 a.prop then Some (record { hyps = joined e.hyps a.hyps; prop = parts.2; base = joined_bases e.base a.base }) else None
 
 -- whether each term has the instance of the type of its unknown, and no loose bound variables
 abbrev pub keeps : List TypeEntry → List TermEntry → Bool
 keeps es [] = true
 keeps es (f ∷ fs) = has_type f.term (inst_ty es f.typ) && keeps es fs
 
--- the normal form of the instance, where types are kept and no instantiated unknown is in the hypotheses
-abbrev pub instantiated : List TypeEntry → List TermEntry → Theorem → Option Theorem
-instantiated es fs th = if keeps es fs && not (in_tms es fs th.hyps) then Some (record { hyps = th.hyps; prop = norm (inst_tm es fs th.prop); base = th.base }) else None
+-- the instance in normal form, where types are kept and no instantiated unknown is in the hypotheses
+abbrev pub instantiated : Instance → Theorem → Option Theorem
+instantiated s th = if keeps s.types s.terms && not (in_tms s.types s.terms th.hyps) then Some (record { hyps = th.hyps; prop = instance_of s th.prop; base = th.base }) else None
 
 -- unknowns of number 0 for the named free and type variables, where none of them is in the hypotheses
 abbrev pub generalized : List (List ℕ) → Theorem → Option Theorem

@@ -1,17 +1,26 @@
 //! Theorems, which only the inferences make.
 #![tactic(auto)]
 
+mod axioms;
+mod declarations;
 mod form;
 mod inference;
 mod laws;
+mod logic;
+mod theory;
 mod thm;
 mod thms;
+mod type_instances;
 
+pub use axioms::{Axioms, NamedProp};
+pub use declarations::{AxiomFail, Declaration, TheoryFail};
 pub use form::{make_all, make_eq, make_imp, prop_type, split_all, split_eq, split_imp};
 pub use inference::InferenceError;
-pub use laws::{derived_are_propositions, normal_forms_are_derived};
+pub use laws::{derived_are_propositions, instances_are_found, normal_forms_are_derived};
+pub use logic::Logic;
+pub use theory::Theory;
 pub use thm::{
-    Thm, abstract_rule, assume, beta, combination, equal_elim, equal_intr, eta, forall_elim,
+    Thm, abstract_rule, assume, axiom, beta, combination, equal_elim, equal_intr, eta, forall_elim,
     forall_intr, generalize, implies_elim, implies_intr, instantiate_thm, reflexive, symmetric,
     transitive,
 };

@@ -1,30 +1,37 @@
-ghost use Rattle.std.specs.Prelude.{◌≡◌, [], IfOk};
+ghost use Rattle.std.specs.Prelude.{◌≡◌, ◌↔◌, [], ◌∷◌, IsTrue, IfOk};
 ghost use Rattle.isa_kernel.specs.Theorem.{IsDerived};
 ghost use Rattle.isa_kernel.specs.Logic.{prop};
 ghost use Rattle.isa_kernel.specs.Inferences.{Answers, TypedAs, IsChecked, has_type, well_typed, assumed, implies_introduced, implies_eliminated, forall_introduced, forall_eliminated, reflexive_at, turned, chained, combined, abstracted, contracted, shortened, equal_introduced, equal_eliminated, keeps, instantiated, generalized};
 ghost use Rattle.isa_terms.specs.Typing.{type_at};
 ghost use Rattle.isa_terms.specs.Terms.{Abs};
 ghost use Rattle.isa_terms.specs.Binding.{close};
+ghost use Rattle.isa_terms.specs.Sets.{joined, without};
+ghost use Rattle.isa_kernel.specs.Axioms.{names_of};
+ghost use Rattle.isa_kernel.specs.Theories.{AnswersAxiom};
 
+use crate::axioms::{Axioms, joined_bases, no_base, only_axiom};
+use crate::declarations::AxiomFail;
 use crate::form::{
-    is_last, is_prop, make_all, make_eq, make_imp, prop_type, split_abs, split_all, split_app,
-    split_eq, split_free, split_imp,
+    at, is_last, is_prop, make_all, make_eq, make_imp, prop_type, split_abs, split_app, split_eq,
+    split_free, split_imp, split_quantifier,
 };
 use crate::inference::InferenceError;
+use crate::theory::Theory;
 use isa_terms::{
-    IllTyped, Name, Term, TermEntry, TermNode, Terms, Typ, TypeEntry, closed, copied,
-    function_type, gen_term, in_some, inst_term, inst_typ, joined, named_in_some, norm, occurs_in,
+    IllTyped, Inst, Name, Names, Term, TermEntry, TermNode, Terms, Typ, TypeEntry, closed,
+    function_type, gen_term, in_some, inst_typ, instantiate, joined, named_in_some, occurs_in,
     replaced, same_term, same_typ, split_function, type_of, without,
 };
 use std::alloc::{AllocError, Global};
 use std::marker::Model;
+use std::rc::Rc;
 
 /// A theorem, with its hypotheses and the axioms that it rests on.
 #[derive(Drop)]
 pub struct Thm {
-    hyps: Terms,
+    hyps: Rc<Terms>,
     prop: Term,
-    base: Terms,
+    base: Rc<Axioms>,
 }
 
 impl Model for Thm {
@@ -34,9 +41,9 @@ impl Model for Thm {
 
     ghost coded = { theorem_code };
 
-    ghost view = { λ a. record { hyps = a.hyps; prop = a.prop; base = a.base } };
+    ghost view = { λ a. record { hyps = a.hyps.value; prop = a.prop; base = a.base.value } };
 
-    ghost invariant = { λ a. IsDerived (record { hyps = a.hyps; prop = a.prop; base = a.base }) };
+    ghost invariant = { λ a. IsDerived (record { hyps = a.hyps.value; prop = a.prop; base = a.base.value }) };
 }
 
 impl Thm {
@@ -52,11 +59,29 @@ impl Thm {
         &self.prop
     }
 
-    /// The propositions of the axioms that it rests on.
-    pub fn base(&self) -> &Terms
+    /// The names of the axioms that it rests on.
+    pub fn axioms(&self) -> &Names
+        ensures { result.now ≡ names_of self.now.base }
+    {
+        self.base.names()
+    }
+
+    /// The axioms that it rests on.
+    pub fn base(&self) -> &Axioms
         ensures { result.now ≡ self.now.base }
     {
         &self.base
+    }
+
+    /// An equal theorem, which shares all that it holds.
+    pub fn copy(&self, alloc: Global) -> Result<Thm, AllocError>
+        ensures { IfOk result (λ th. th ≡ self.now) }
+    {
+        Ok(Thm {
+            hyps: self.hyps.clone()?,
+            prop: self.prop.copy()?,
+            base: self.base.clone()?,
+        })
     }
 
     /// Each theorem has a derivation.
@@ -65,6 +90,55 @@ impl Thm {
     {
         let _ = &self.prop;
     }
+}
+
+fn no_hyps(alloc: Global) -> Result<Rc<Terms>, AllocError>
+    ensures { IfOk result (λ r. r.value ≡ []) }
+{
+    Ok(Rc::new(alloc, Terms::new(alloc))?)
+}
+
+/// The hypothesis alone.
+fn only_hyp(alloc: Global, a: &Term) -> Result<Rc<Terms>, AllocError>
+    ensures { IfOk result (λ r. r.value ≡ a.now ∷ []) }
+{
+    let mut hyps = Terms::new(alloc);
+    hyps.push(a.copy()?)?;
+    Ok(Rc::new(alloc, hyps)?)
+}
+
+/// The hypotheses without one of them.
+fn hyps_without(alloc: Global, a: &Term, hyps: &Rc<Terms>) -> Result<Rc<Terms>, AllocError>
+    ensures { IfOk result (λ r. r.value ≡ without a.now hyps.now.value) }
+{
+    Ok(Rc::new(alloc, without(alloc, a, hyps.as_slice())?)?)
+}
+
+fn has_none(terms: &Terms) -> bool
+    ensures { IsTrue result ↔ (terms.now ≡ []) }
+{
+    match terms.as_slice().split_first() {
+        None => true,
+        Some(_) => false,
+    }
+}
+
+/// The first hypotheses, and then those of the second that are not there. An empty side leaves the other one shared.
+#[tactic(auto, using(crate::proofs::Members::missing_none))]
+fn joined_hyps(
+    alloc: Global,
+    first: &Rc<Terms>,
+    second: &Rc<Terms>,
+) -> Result<Rc<Terms>, AllocError>
+    ensures { IfOk result (λ r. r.value ≡ joined first.now.value second.now.value) }
+{
+    if has_none(second) {
+        return first.clone();
+    }
+    if has_none(first) {
+        return second.clone();
+    }
+    Ok(Rc::new(alloc, joined(alloc, first.as_slice(), second.as_slice())?)?)
 }
 
 /// The type of a well-typed term.
@@ -102,17 +176,29 @@ fn check_prop(alloc: Global, t: &Term) -> Result<(), InferenceError>
     }
 }
 
+/// The declared axiom of that name.
+pub fn axiom(alloc: Global, thy: &Theory, name: &Name) -> Result<Thm, AxiomFail>
+    ensures { AnswersAxiom thy.now name.now result }
+{
+    let Some(prop) = thy.axiom_prop(name) else {
+        return Err(AxiomFail::UnknownAxiom(name.copy()?));
+    };
+    Ok(Thm {
+        hyps: no_hyps(alloc)?,
+        prop: prop.copy()?,
+        base: only_axiom(alloc, name, prop)?,
+    })
+}
+
 /// `a` under the hypothesis `a`, for a proposition a.
 pub fn assume(alloc: Global, a: &Term) -> Result<Thm, InferenceError>
     ensures { Answers result (assumed a.now) }
 {
     check_prop(alloc, a)?;
-    let mut hyps = Terms::new(alloc);
-    hyps.push(a.copy()?)?;
     Ok(Thm {
-        hyps,
+        hyps: only_hyp(alloc, a)?,
         prop: a.copy()?,
-        base: Terms::new(alloc),
+        base: no_base(alloc)?,
     })
 }
 
@@ -122,9 +208,9 @@ pub fn implies_intr(alloc: Global, a: &Term, th: &Thm) -> Result<Thm, InferenceE
 {
     check_prop(alloc, a)?;
     Ok(Thm {
-        hyps: without(alloc, a, th.hyps.as_slice())?,
+        hyps: hyps_without(alloc, a, &th.hyps)?,
         prop: make_imp(alloc, a, &th.prop)?,
-        base: copied(alloc, th.base.as_slice())?,
+        base: th.base.clone()?,
     })
 }
 
@@ -139,9 +225,9 @@ pub fn implies_elim(alloc: Global, ab: &Thm, a: &Thm) -> Result<Thm, InferenceEr
         return Err(InferenceError::Shape);
     }
     Ok(Thm {
-        hyps: joined(alloc, ab.hyps.as_slice(), a.hyps.as_slice())?,
+        hyps: joined_hyps(alloc, &ab.hyps, &a.hyps)?,
         prop: right.copy()?,
-        base: joined(alloc, ab.base.as_slice(), a.base.as_slice())?,
+        base: joined_bases(alloc, &ab.base, &a.base)?,
     })
 }
 
@@ -157,24 +243,24 @@ pub fn forall_intr(alloc: Global, x: &Term, th: &Thm) -> Result<Thm, InferenceEr
     }
     let body = closed(alloc, variable, typ, &th.prop)?;
     Ok(Thm {
-        hyps: copied(alloc, th.hyps.as_slice())?,
+        hyps: th.hyps.clone()?,
         prop: make_all(alloc, variable, typ, body)?,
-        base: copied(alloc, th.base.as_slice())?,
+        base: th.base.clone()?,
     })
 }
 
-/// B at t, from `!!x. B` for a t of the type of x.
+/// B at t, from `!!x. B` for a t of the type of x; from `!!` over a predicate that is no abstraction, the predicate applied to t.
 pub fn forall_elim(alloc: Global, t: &Term, th: &Thm) -> Result<Thm, InferenceError>
     ensures { Answers result (forall_eliminated t.now th.now) }
 {
-    let Some((_, typ, body)) = split_all(&th.prop) else {
+    let Some((typ, predicate)) = split_quantifier(&th.prop) else {
         return Err(InferenceError::Shape);
     };
     check_type(alloc, t, typ)?;
     Ok(Thm {
-        hyps: copied(alloc, th.hyps.as_slice())?,
-        prop: replaced(alloc, body, t)?,
-        base: copied(alloc, th.base.as_slice())?,
+        hyps: th.hyps.clone()?,
+        prop: at(alloc, predicate, t)?,
+        base: th.base.clone()?,
     })
 }
 
@@ -184,9 +270,9 @@ pub fn reflexive(alloc: Global, t: &Term) -> Result<Thm, InferenceError>
 {
     let typ = typed(alloc, t)?;
     Ok(Thm {
-        hyps: Terms::new(alloc),
+        hyps: no_hyps(alloc)?,
         prop: make_eq(alloc, &typ, t, t)?,
-        base: Terms::new(alloc),
+        base: no_base(alloc)?,
     })
 }
 
@@ -198,9 +284,9 @@ pub fn symmetric(alloc: Global, th: &Thm) -> Result<Thm, InferenceError>
         return Err(InferenceError::Shape);
     };
     Ok(Thm {
-        hyps: copied(alloc, th.hyps.as_slice())?,
+        hyps: th.hyps.clone()?,
         prop: make_eq(alloc, typ, right, left)?,
-        base: copied(alloc, th.base.as_slice())?,
+        base: th.base.clone()?,
     })
 }
 
@@ -218,9 +304,9 @@ pub fn transitive(alloc: Global, a: &Thm, b: &Thm) -> Result<Thm, InferenceError
         return Err(InferenceError::Shape);
     }
     Ok(Thm {
-        hyps: joined(alloc, a.hyps.as_slice(), b.hyps.as_slice())?,
+        hyps: joined_hyps(alloc, &a.hyps, &b.hyps)?,
         prop: make_eq(alloc, typ, first, last)?,
-        base: joined(alloc, a.base.as_slice(), b.base.as_slice())?,
+        base: joined_bases(alloc, &a.base, &b.base)?,
     })
 }
 
@@ -243,9 +329,9 @@ pub fn combination(alloc: Global, f: &Thm, a: &Thm) -> Result<Thm, InferenceErro
     let left = Term::new(alloc, TermNode::App(f_left.copy()?, a_left.copy()?))?;
     let right = Term::new(alloc, TermNode::App(f_right.copy()?, a_right.copy()?))?;
     Ok(Thm {
-        hyps: joined(alloc, f.hyps.as_slice(), a.hyps.as_slice())?,
+        hyps: joined_hyps(alloc, &f.hyps, &a.hyps)?,
         prop: make_eq(alloc, range, &left, &right)?,
-        base: joined(alloc, f.base.as_slice(), a.base.as_slice())?,
+        base: joined_bases(alloc, &f.base, &a.base)?,
     })
 }
 
@@ -273,9 +359,9 @@ pub fn abstract_rule(alloc: Global, x: &Term, th: &Thm) -> Result<Thm, Inference
     let right = abstraction(alloc, name, typ, right)?;
     let fun_typ = function_type(alloc, typ.copy()?, range.copy()?)?;
     Ok(Thm {
-        hyps: copied(alloc, th.hyps.as_slice())?,
+        hyps: th.hyps.clone()?,
         prop: make_eq(alloc, &fun_typ, &left, &right)?,
-        base: copied(alloc, th.base.as_slice())?,
+        base: th.base.clone()?,
     })
 }
 
@@ -292,9 +378,9 @@ pub fn beta(alloc: Global, t: &Term) -> Result<Thm, InferenceError>
     let typ = typed(alloc, t)?;
     let right = replaced(alloc, body, arg)?;
     Ok(Thm {
-        hyps: Terms::new(alloc),
+        hyps: no_hyps(alloc)?,
         prop: make_eq(alloc, &typ, t, &right)?,
-        base: Terms::new(alloc),
+        base: no_base(alloc)?,
     })
 }
 
@@ -316,9 +402,9 @@ pub fn eta(alloc: Global, t: &Term) -> Result<Thm, InferenceError>
         return Err(InferenceError::Shape);
     }
     Ok(Thm {
-        hyps: Terms::new(alloc),
+        hyps: no_hyps(alloc)?,
         prop: make_eq(alloc, &fun_typ, t, fun)?,
-        base: Terms::new(alloc),
+        base: no_base(alloc)?,
     })
 }
 
@@ -337,9 +423,9 @@ pub fn equal_intr(alloc: Global, ab: &Thm, ba: &Thm) -> Result<Thm, InferenceErr
     }
     let typ = prop_type(alloc)?;
     Ok(Thm {
-        hyps: joined(alloc, ab.hyps.as_slice(), ba.hyps.as_slice())?,
+        hyps: joined_hyps(alloc, &ab.hyps, &ba.hyps)?,
         prop: make_eq(alloc, &typ, left, right)?,
-        base: joined(alloc, ab.base.as_slice(), ba.base.as_slice())?,
+        base: joined_bases(alloc, &ab.base, &ba.base)?,
     })
 }
 
@@ -354,9 +440,9 @@ pub fn equal_elim(alloc: Global, e: &Thm, a: &Thm) -> Result<Thm, InferenceError
         return Err(InferenceError::Shape);
     }
     Ok(Thm {
-        hyps: joined(alloc, e.hyps.as_slice(), a.hyps.as_slice())?,
+        hyps: joined_hyps(alloc, &e.hyps, &a.hyps)?,
         prop: right.copy()?,
-        base: joined(alloc, e.base.as_slice(), a.base.as_slice())?,
+        base: joined_bases(alloc, &e.base, &a.base)?,
     })
 }
 
@@ -371,37 +457,34 @@ fn check_kept(alloc: Global, types: &[TypeEntry], terms: &[TermEntry]) -> Result
     Ok(())
 }
 
-/// The instance, normalised, where types are kept and no instantiated unknown is in the hypotheses.
-pub fn instantiate_thm(
-    alloc: Global,
-    types: &[TypeEntry],
-    terms: &[TermEntry],
-    th: &Thm,
-) -> Result<Thm, InferenceError>
-    ensures { Answers result (instantiated types.now terms.now th.now) }
+/// The instance, in normal form, where types are kept and no instantiated unknown is in the hypotheses.
+pub fn instantiate_thm(alloc: Global, s: &Inst, th: &Thm) -> Result<Thm, InferenceError>
+    ensures { Answers result (instantiated s.now th.now) }
 {
+    let types = s.types().as_slice();
+    let terms = s.terms().as_slice();
     check_kept(alloc, types, terms)?;
     if in_some(types, terms, th.hyps.as_slice()) {
         return Err(InferenceError::Shape);
     }
-    let instance = inst_term(alloc, types, terms, &th.prop)?;
     Ok(Thm {
-        hyps: copied(alloc, th.hyps.as_slice())?,
-        prop: norm(alloc, &instance)?,
-        base: copied(alloc, th.base.as_slice())?,
+        hyps: th.hyps.clone()?,
+        prop: instantiate(alloc, s, &th.prop)?,
+        base: th.base.clone()?,
     })
 }
 
 /// Unknowns of number 0 for the named free and type variables, where none of them is in the hypotheses.
-pub fn generalize(alloc: Global, names: &[Name], th: &Thm) -> Result<Thm, InferenceError>
+pub fn generalize(alloc: Global, names: &Names, th: &Thm) -> Result<Thm, InferenceError>
     ensures { Answers result (generalized names.now th.now) }
 {
+    let names = names.as_slice();
     if named_in_some(names, th.hyps.as_slice()) {
         return Err(InferenceError::Shape);
     }
     Ok(Thm {
-        hyps: copied(alloc, th.hyps.as_slice())?,
+        hyps: th.hyps.clone()?,
         prop: gen_term(alloc, names, &th.prop)?,
-        base: copied(alloc, th.base.as_slice())?,
+        base: th.base.clone()?,
     })
 }

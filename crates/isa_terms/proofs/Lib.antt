@@ -4,3 +4,6 @@ pub mod Bare
 pub mod Steps
 pub mod Entries
 pub mod Counts
+pub mod Ordered
+pub mod Shared
+pub mod Apart

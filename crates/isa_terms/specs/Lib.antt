@@ -20,4 +20,7 @@ pub mod Norm
 pub mod Cost
 pub mod Normal
 pub mod Order
+pub mod Pattern
+pub mod Facts
 pub mod Rows
+pub mod Laws

@@ -2,18 +2,24 @@
 #![tactic(auto)]
 
 mod binding;
+mod changes;
+mod facts;
 mod generalize;
 mod inst;
 mod instance;
+mod laws;
 mod lists;
 mod measure;
 mod name;
 mod normal;
 mod order;
+mod pattern;
 mod replace;
 mod same;
 mod term;
 mod terms;
+#[cfg(test)]
+mod tests;
 mod typ;
 mod typing;
 
@@ -21,11 +27,13 @@ pub use binding::{closed, occurs, occurs_in};
 pub use generalize::{gen_term, gen_typ, named_in_some};
 pub use inst::{TermEntry, TypeEntry, in_some, in_term, in_typ, inst_term, inst_typ};
 pub use instance::{Inst, instantiate};
+pub use laws::term_order_is_total;
 pub use lists::{Names, TermEntries, Text, TypeEntries};
 pub use measure::size;
 pub use name::Name;
 pub use normal::{height, norm};
 pub use order::{compare_terms, head};
+pub use pattern::{distinct_args, is_pattern};
 pub use replace::{put_at, raised, replaced};
 pub use same::{same_term, same_typ};
 pub use term::{Term, TermNode};

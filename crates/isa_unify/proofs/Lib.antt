@@ -3,6 +3,7 @@ pub mod Tests
 pub mod TypeInstances
 pub mod TypesUnify
 pub mod Stacks
+pub mod TypeMatches
 pub mod Unknowns
 pub mod Measure
 pub mod Assigned
@@ -13,3 +14,7 @@ pub mod NoTypes
 pub mod Once
 pub mod Entries
 pub mod Flexible
+pub mod TypeAnswers
+pub mod Solutions
+pub mod PatternMatches
+pub mod FlexibleSteps

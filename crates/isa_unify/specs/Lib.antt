@@ -2,6 +2,7 @@ pub mod Descent
 pub mod TypeUnification
 pub mod TypeStacks
 pub mod Matching
+pub mod BinderLists
 pub mod VariableCodes
 pub mod EquationCodes
 pub mod Spines

@@ -1,14 +1,13 @@
 -- Matches of patterns (Miller; Nipkow): each unknown of a pattern is applied to distinct bound variables only.
-use Rattle.std.specs.Prelude.{◌≡◌, ℕ, ◌+◌, nat_eq, nat_lt, Bool, true, false, ◌&&◌, ◌||◌, List, [], ◌∷◌, ◌++◌, slice_get, All, Option, Some, None, is_some, option_map, Ok, Err, if◌then◌else◌}
+use Rattle.std.specs.Prelude.{◌≡◌, ℕ, ◌+◌, nat_eq, nat_lt, Bool, true, false, ◌&&◌, ◌||◌, List, [], ◌∷◌, ◌++◌, slice_get, Option, Some, None, is_some, Ok, Err, if◌then◌else◌}
 use Rattle.isa_terms.specs.Types.{Ty, Tys, TyCon, TyFixed, TyUnknown, NoTys, MoreTys}
 use Rattle.isa_terms.specs.Terms.{Tm, Const, Free, Unknown, Bound, Abs, App, bare}
 use Rattle.isa_terms.specs.Equal.{name_eq, ty_eq, tm_eq}
-use Rattle.isa_terms.specs.Typing.{type_at, HasType}
+use Rattle.isa_terms.specs.Typing.{type_at}
 use Rattle.isa_terms.specs.Replace.{raise}
-use Rattle.isa_terms.specs.Norm.{eta, norm}
-use Rattle.isa_terms.specs.Instance.{find_type, find_term, inst_ty, inst_tm}
-use Rattle.isa_terms.specs.declared.inst.TypeEntry.{TypeEntry}
-use Rattle.isa_terms.specs.declared.inst.TermEntry.{TermEntry}
+use Rattle.isa_terms.specs.Norm.{eta}
+use Rattle.isa_terms.specs.Instance.{Instance, find_type, find_term, inst_ty, instance_of, set_type, set_term}
+use Rattle.isa_conversion.specs.Instances.{IsKept}
 use Rattle.isa_unify.specs.TypeUnification.{ty_has}
 
 -- what a step makes of what is there
@@ -16,11 +15,6 @@ infixl 10 ◌>>=◌
 abbrev pub ◌>>=◌ : {A B : Type 0} → Option A → (A → Option B) → Option B
 None >>= f = None
 (Some x) >>= f = f x
-
--- types for type unknowns and terms for unknowns
-pub record Instance : Type 0 where
-  pub types : List TypeEntry
-  pub terms : List TermEntry
 
 -- whether the type unknown stands in a type of the term
 abbrev pub has_type_unknown : List ℕ → ℕ → Tm → Bool
@@ -40,26 +34,25 @@ has_unknown x i T (Bound n) = false
 has_unknown x i T (Abs y U b) = has_unknown x i T b
 has_unknown x i T (App f a) = has_unknown x i T f || has_unknown x i T a
 
--- each term has the instance of its unknown's type, and no loose bound variable
-abbrev pub KeepsTypes : Instance → Type 0
-KeepsTypes s = All (λ (e : TermEntry). HasType e.term (inst_ty s.types e.typ)) s.terms
-
 -- s is defined on just the unknowns and type unknowns of p, and makes p equal to t; the unknowns of t count as constants
 pub record IsMatch (p t : Tm) (s : Instance) : Type 0 where
   pub types : (x : List ℕ) (i : ℕ) → is_some (find_type x i s.types) ≡ has_type_unknown x i p
   pub terms : (x : List ℕ) (i : ℕ) (T : Ty) → is_some (find_term x i T s.terms) ≡ has_unknown x i T p
-  pub keeps : KeepsTypes s
-  pub gives : bare (norm (inst_tm s.types s.terms p)) ≡ bare t
+  pub kept : IsKept s.types s.terms
+  pub gives : bare (instance_of s p) ≡ bare t
 
--- the types s and those that make T to U
+-- s and the types that make T to U
 abbrev mutual
-  pub ty_matched : List TypeEntry → Ty → Ty → Option (List TypeEntry)
-  ty_matched s (TyUnknown x i) U = elim (find_type x i s) [ None ↦ Some (s ++ record { name = x; number = i; typ = U } ∷ []) | Some V ↦ if ty_eq V U then Some s else None ]
+  pub ty_matched : Instance → Ty → Ty → Option Instance
+  ty_matched s (TyUnknown x i) U = elim (find_type x i s.types) [
+    | None ↦ Some (record s { types = set_type (record { name = x; number = i; typ = U }) s.types })
+    | Some V ↦ if ty_eq V U then Some s else None
+  ]
   ty_matched s (TyFixed a) (TyFixed b) = if name_eq a b then Some s else None
   ty_matched s (TyCon c Ts) (TyCon d Us) = if name_eq c d then tys_matched s Ts Us else None
   ty_matched s _ _ = None
 
-  pub tys_matched : List TypeEntry → Tys → Tys → Option (List TypeEntry)
+  pub tys_matched : Instance → Tys → Tys → Option Instance
   tys_matched s NoTys NoTys = Some s
   tys_matched s (MoreTys T Ts) (MoreTys U Us) = do
     r ← ty_matched s T U
@@ -118,7 +111,7 @@ is_closed k (App f a) = is_closed k f && is_closed k a
 
 -- s with u for the unknown, unless another term stands for it
 abbrev pub bound_to : Option Tm → Instance → Flexible → Tm → Option Instance
-bound_to None s h u = Some (record s { terms = s.terms ++ record { name = h.name; number = h.number; typ = h.typ; term = u } ∷ [] })
+bound_to None s h u = Some (record s { terms = set_term (record { name = h.name; number = h.number; typ = h.typ; term = u }) s.terms })
 bound_to (Some v) s h u = if tm_eq v u then Some s else None
 
 -- `?F xs` against t: F becomes `%xs. t`, where this has no loose bound variable
@@ -129,7 +122,7 @@ solved G s h t = do
 
 -- s with what makes the type T to U, where that is to be so
 abbrev pub typed : Bool → Instance → Ty → Ty → Option Instance
-typed same s T U = if same then option_map (λ r. record s { types = r }) (ty_matched s.types T U) else None
+typed same s T U = if same then ty_matched s T U else None
 
 abbrev pub app_parts : Tm → Option (Tm × Tm)
 app_parts (App f a) = Some (f, a)
@@ -153,14 +146,14 @@ matched G s (App f a) t = elim (flexible (App f a)) [
 ]
 matched G s _ _ = None
 
+-- the type of a term that is well typed without loose bound variables
+abbrev pub closed_type : Tm → Option Ty
+closed_type t = elim (type_at [] t) [ Ok T ↦ Some T | Err fault ↦ None ]
+
 -- The match of the pattern p with t, if there is one: the types first, then the places from left to right.
 abbrev pub match_of : Tm → Tm → Option Instance
-match_of p t = elim (type_at [] p) [
-  | Err fault ↦ None
-  | Ok T ↦ elim (type_at [] t) [
-    | Err fault ↦ None
-    | Ok U ↦ do
-      s ← ty_matched [] T U
-      matched [] (record { types = s; terms = [] }) p t
-  ]
-]
+match_of p t = do
+  T ← closed_type p
+  U ← closed_type t
+  s ← ty_matched (record { types = []; terms = [] }) T U
+  matched [] s p t

@@ -1,6 +1,8 @@
 -- Stacks of equations of types, the top one last.
-use Rattle.std.specs.Prelude.{◌≡◌, ℕ, Bool, true, false, List, ◌++◌, map, reverse, Option, ◌⊎◌, Some, None, option_map}
+use Rattle.std.specs.Prelude.{◌≡◌, ℕ, Bool, true, false, List, [], ◌∷◌, ◌++◌, map, reverse, Option, ◌⊎◌, None, Some, option_map}
 use Rattle.isa_terms.specs.Types.{Ty}
+use Rattle.isa_terms.specs.Instance.{set_type}
+use Rattle.isa_terms.specs.declared.inst.TypeEntry.{TypeEntry}
 use Rattle.isa_unify.specs.declared.types.TypePair.{TypePair}
 use Rattle.isa_unify.specs.Descent.{Done, Lighter, Solved}
 use Rattle.isa_unify.specs.TypeUnification.{TypeState, type_step, ty_has, solved_by}
@@ -26,3 +28,8 @@ Solves false x i T s t = ty_has x i T ≡ true
 abbrev pub Advances : Bool → TypeState → TypeState → Type 0
 Advances true s t = (type_step s ≡ Lighter t) ⊎ (type_step s ≡ Solved t)
 Advances false s t = type_step s ≡ Done None
+
+-- the map with those entries, set from the last to the first
+abbrev pub set_all : List TypeEntry → List TypeEntry → List TypeEntry
+set_all s [] = s
+set_all s (e ∷ es) = set_type e (set_all s es)

@@ -3,7 +3,7 @@
 use Rattle.std.specs.Prelude.{◌≡◌, ℕ, suc, ◌+◌, Bool, false, cond, ◌&&◌, ◌||◌, nat_eq, List, [], ◌∷◌, ◌++◌, map, length, Option, Some, None}
 use Rattle.isa_terms.specs.Types.{Ty, Tys, TyCon, TyFixed, TyUnknown, NoTys, MoreTys, ty_depth}
 use Rattle.isa_terms.specs.Equal.{name_eq, ty_eq}
-use Rattle.isa_terms.specs.Instance.{inst_ty}
+use Rattle.isa_terms.specs.Instance.{Instance, inst_ty}
 use Rattle.isa_terms.specs.declared.inst.TypeEntry.{TypeEntry}
 use Rattle.isa_unify.specs.Descent.{Step, Done, Lighter, Solved, descend}
 
@@ -16,6 +16,11 @@ Unifies r (e ∷ es) = (inst_ty r e.0 ≡ inst_ty r e.1) × Unifies r es
 pub record IsMostGeneral (es : List (Ty × Ty)) (s : List TypeEntry) : Type 0 where
   pub unifies : Unifies s es
   pub general : (r : List TypeEntry) → Unifies r es → (T : Ty) → inst_ty r (inst_ty s T) ≡ inst_ty r T
+
+-- s has no terms, and its types are a most general unifier of S and T
+pub record IsTypeUnifier (S T : Ty) (s : Instance) : Type 0 where
+  pub types : IsMostGeneral ((S, T) ∷ []) s.types
+  pub terms : s.terms ≡ []
 
 -- whether the type unknown stands in the type
 abbrev mutual

@@ -1,17 +1,20 @@
 //! Unification of types, matching of patterns, and unification of patterns.
 #![tactic(auto)]
 
+mod abstractions;
 mod asking;
+mod binders;
 mod clashing;
 mod equation;
 mod filling;
 mod fresh;
 mod laws;
+mod lookup;
+mod matching;
 mod numbers;
 mod parts;
 mod places;
 mod progress;
-mod solutions;
 mod spines;
 mod steps;
 mod types;
@@ -19,5 +22,6 @@ mod unification;
 
 pub use fresh::Fresh;
 pub use laws::unification_ends;
-pub use types::{TypePair, unify_type_pairs};
+pub use matching::match_pattern;
+pub use types::{TypePair, unify_type_pairs, unify_types};
 pub use unification::{TermPair, Unified, unify, unify_pairs};

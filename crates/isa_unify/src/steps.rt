@@ -12,7 +12,7 @@ use crate::numbers::Numbers;
 use crate::parts::parts_at;
 use crate::places::{Pattern, first_place, shared_of};
 use crate::progress::{Answer, Parts, Progress, State, Verdict};
-use crate::solutions::{abstracted, over, range_behind};
+use crate::abstractions::{abstracted, over, range_behind};
 use crate::spines::{args_of, distinct_bounds, head_of};
 use isa_terms::{Term, TermEntries, TermEntry, TermNode};
 use std::alloc::{AllocError, Global};

@@ -1,11 +1,15 @@
 //! Unification of types.
 
-ghost use Rattle.std.specs.Prelude.{◌≡◌, ◌∷◌, [], IfOk, option_map};
+ghost use Rattle.std.specs.Prelude.{◌≡◌, ◌∷◌, [], List, IfOk, IfSome, IfNone, option_map};
+ghost use Rattle.isa_terms.specs.Instance.{inst_ty};
+ghost use Rattle.isa_terms.specs.declared.inst.TypeEntry.{TypeEntry};
+ghost use Rattle.isa_unify.specs.TypeUnification.{IsTypeUnifier};
+ghost use Rattle.isa_unify.specs.TypeStacks.{set_all};
 ghost use Rattle.isa_terms.specs.Types.{tys_of};
 ghost use Rattle.isa_unify.specs.TypeUnification.{ty_has, tys_have, one, followed_by, equations_under, paired, type_state, unify_typs};
 ghost use Rattle.isa_unify.specs.TypeStacks.{pair_of, stack_of, Pushes, Solves, Advances};
 
-use isa_terms::{Name, Typ, TypNode, TypeEntry, inst_typ, same_typ};
+use isa_terms::{Inst, Name, Typ, TypNode, TypeEntry, inst_typ, same_typ};
 use std::alloc::{AllocError, Global};
 
 /// Two types that are to be made equal.
@@ -181,4 +185,33 @@ pub fn unify_type_pairs(
         }
     }
     Ok(Some(solution))
+}
+
+/// The entries as an instance without terms. Of two for one type unknown the first counts.
+#[tactic(auto, using(crate::proofs::TypeAnswers::set_all_last))]
+fn instance_of_types(alloc: Global, mut entries: Vec<TypeEntry>) -> Result<Inst, AllocError>
+    ensures { IfOk result (λ inst. inst ≡ record { types = set_all [] entries.items; terms = [] }) }
+{
+    let mut inst = Inst::new(alloc);
+    while let Some(entry) = entries.pop() {
+        inst.put_type(alloc, entry.name, entry.number, entry.typ)?;
+    }
+    Ok(inst)
+}
+
+/// A most general unifier of the two types; `None` where they have none.
+#[tactic(auto, using(crate::proofs::TypeAnswers::type_unifier, crate::proofs::TypeAnswers::no_type_unifier))]
+pub fn unify_types(alloc: Global, left: &Typ, right: &Typ) -> Result<Option<Inst>, AllocError>
+    ensures found { IfOk result (λ found. IfSome found (λ inst. IsTypeUnifier left.now right.now inst)) }
+    ensures none { IfOk result (λ found. IfNone found ((r : List TypeEntry) → inst_ty r left.now ≡ inst_ty r right.now → ⊥)) }
+{
+    let mut work = Vec::new(alloc);
+    work.push(TypePair {
+        left: left.copy()?,
+        right: right.copy()?,
+    })?;
+    match unify_type_pairs(alloc, work)? {
+        None => Ok(None),
+        Some(entries) => Ok(Some(instance_of_types(alloc, entries)?)),
+    }
 }

@@ -1,7 +1,7 @@
 use Rattle.std.proofs.Common.{rules, sym, ap, ◌∙◌}
 use Rattle.isa_terms.specs.TermLayers.{term_of}
 use Rattle.isa_unify.specs.Spines.{head_of}
-use Rattle.isa_unify.proofs.Flexible.{flexible_both}
+use Rattle.isa_unify.proofs.FlexibleSteps.{flexible_both}
 use Rattle.isa_unify.proofs.steps.flexible_step.Goals as goal
 
 pub returns-in-Some-2 : goal.returns-in-Some-2

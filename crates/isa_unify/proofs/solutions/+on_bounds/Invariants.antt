@@ -1,5 +1,0 @@
-use Rattle.std.proofs.Common.{length}
-use Rattle.isa_unify.proofs.solutions.+on_bounds.Given as goal
-
-abbrev pub decreases-on_bounds : goal.decreases-on_bounds
-decreases-on_bounds l = length l.numbers.now

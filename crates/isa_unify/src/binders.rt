@@ -1,0 +1,131 @@
+//! The binders round a place of a term.
+
+ghost use Rattle.std.specs.Prelude.{◌≡◌, slice_get, option_map, IfOk};
+ghost use Rattle.isa_terms.specs.Norm.{loose, eta};
+ghost use Rattle.isa_unify.specs.Matching.{Binder, over, is_closed, solution};
+ghost use Rattle.isa_unify.specs.BinderLists.{binders_in, binder_of};
+
+use isa_terms::{Name, Term, TermNode, Typ, replaced};
+use std::alloc::{AllocError, Global};
+
+/// A binder's name and type.
+#[derive(Drop)]
+pub struct Bound<'a> {
+    pub name: &'a Name,
+    pub typ: &'a Typ,
+}
+
+/// The binders round a place, the innermost first.
+#[derive(Drop)]
+pub enum Binders<'a> {
+    Outermost,
+    Under(&'a Name, &'a Typ, &'a Binders<'a>),
+}
+
+/// The binder of the variable with that number.
+fn binder<'a>(binders: &Binders<'a>, number: u32) -> Option<Bound<'a>>
+    ensures { option_map binder_of result ≡ slice_get (binders_in binders.now) number }
+{
+    match binders {
+        Binders::Outermost => None,
+        Binders::Under(name, typ, outer) => {
+            if number == 0 {
+                Some(Bound { name, typ })
+            } else {
+                binder(outer, number - 1)
+            }
+        }
+    }
+}
+
+/// The body of the abstraction of t over the variable `number` of the binders round t.
+pub fn over(alloc: Global, number: u32, depth: u32, t: &Term) -> Result<Term, AllocError>
+    ensures { IfOk result (λ r. r ≡ over number depth t.now) }
+{
+    match t.view() {
+        TermNode::Const(_, _) | TermNode::Free(_, _) | TermNode::Unknown(_, _, _) => t.copy(),
+        TermNode::Bound(other) => {
+            if *other < depth {
+                t.copy()
+            } else if *other == number.checked_add(depth).ok_or(AllocError)? {
+                Term::new(alloc, TermNode::Bound(depth))
+            } else {
+                Term::new(
+                    alloc,
+                    TermNode::Bound(other.checked_add(1).ok_or(AllocError)?),
+                )
+            }
+        }
+        TermNode::Abs(name, typ, body) => {
+            let body = over(alloc, number, depth.checked_add(1).ok_or(AllocError)?, body)?;
+            Term::new(alloc, TermNode::Abs(name.copy()?, typ.copy()?, body))
+        }
+        TermNode::App(fun, arg) => {
+            let fun = over(alloc, number, depth, fun)?;
+            let arg = over(alloc, number, depth, arg)?;
+            Term::new(alloc, TermNode::App(fun, arg))
+        }
+    }
+}
+
+/// Whether no bound variable of t is loose under `depth` more binders.
+pub fn is_closed(depth: u32, t: &Term) -> Result<bool, AllocError>
+    ensures { IfOk result (λ r. r ≡ is_closed depth t.now) }
+{
+    match t.view() {
+        TermNode::Const(_, _) | TermNode::Free(_, _) | TermNode::Unknown(_, _, _) => Ok(true),
+        TermNode::Bound(number) => Ok(*number < depth),
+        TermNode::Abs(_, _, body) => is_closed(depth.checked_add(1).ok_or(AllocError)?, body),
+        TermNode::App(fun, arg) => Ok(is_closed(depth, fun)? && is_closed(depth, arg)?),
+    }
+}
+
+/// Whether the variable `depth` of as many binders is in the term.
+fn is_loose(depth: u32, t: &Term) -> Result<bool, AllocError>
+    ensures { IfOk result (λ r. r ≡ loose depth t.now) }
+{
+    match t.view() {
+        TermNode::Const(_, _) | TermNode::Free(_, _) | TermNode::Unknown(_, _, _) => Ok(false),
+        TermNode::Bound(number) => Ok(*number == depth),
+        TermNode::Abs(_, _, body) => is_loose(depth.checked_add(1).ok_or(AllocError)?, body),
+        TermNode::App(fun, arg) => Ok(is_loose(depth, fun)? || is_loose(depth, arg)?),
+    }
+}
+
+/// The abstraction over the body, eta short.
+pub fn abstraction(alloc: Global, name: &Name, typ: &Typ, body: Term) -> Result<Term, AllocError>
+    ensures { IfOk result (λ t. t ≡ eta name.now typ.now body) }
+{
+    if let TermNode::App(fun, arg) = body.view() {
+        if let TermNode::Bound(0) = arg.view() {
+            if !is_loose(0, fun)? {
+                return replaced(alloc, fun, arg);
+            }
+        }
+    }
+    Term::new(alloc, TermNode::Abs(name.copy()?, typ.copy()?, body))
+}
+
+/// The abstraction of t over the variables with these numbers, where there are such.
+pub fn solution(
+    alloc: Global,
+    binders: &Binders<'_>,
+    args: &[u32],
+    t: &Term,
+) -> Result<Option<Term>, AllocError>
+    ensures { IfOk result (λ found. found ≡ solution (binders_in binders.now) args.now t.now) }
+{
+    match args.split_first() {
+        None => Ok(Some(t.copy()?)),
+        Some((number, rest)) => {
+            let Some(bound) = binder(binders, *number) else {
+                return Ok(None);
+            };
+            let Some(inner) = solution(alloc, binders, rest, t)? else {
+                return Ok(None);
+            };
+            let body = over(alloc, *number, 0, &inner)?;
+            Ok(Some(abstraction(alloc, bound.name, bound.typ, body)?))
+        }
+    }
+}

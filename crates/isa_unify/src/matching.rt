@@ -1,0 +1,200 @@
+//! Matching of patterns.
+
+ghost use Rattle.std.specs.Prelude.{◌≡◌, ◌++◌, [], ◌∷◌, IfOk, cond, Some, None, Option, option_map};
+ghost use Rattle.isa_terms.specs.Types.{tys_of};
+ghost use Rattle.isa_terms.specs.Instance.{find_term};
+ghost use Rattle.isa_terms.specs.Terms.{App, Bound};
+ghost use Rattle.isa_terms.specs.Replace.{raise};
+ghost use Rattle.isa_unify.specs.Matching.{ty_matched, tys_matched, flexible, bound_to, solved, typed, matched, closed_type, match_of};
+ghost use Rattle.isa_unify.specs.BinderLists.{binders_in, flexible_of};
+
+use crate::binders::{Binders, is_closed, solution};
+use crate::lookup::{term_for, type_for};
+use isa_terms::{
+    IllTyped, Inst, Name, Term, TermNode, Typ, TypNode, inst_typ, raised, same_term, same_typ,
+    type_of,
+};
+use std::alloc::{AllocError, Global};
+
+/// An unknown with the numbers of the bound variables to which it is applied.
+#[derive(Drop)]
+pub struct Spine<'a> {
+    pub name: &'a Name,
+    pub number: u32,
+    pub typ: &'a Typ,
+    pub args: Vec<u32>,
+}
+
+/// Adds what makes the first type to the second, where that can be had. If not, some of it may have been added.
+#[cycle(types)]
+fn extend_types(alloc: Global, inst: &mut Inst, typ: &Typ, wanted: &Typ) -> Result<bool, AllocError>
+    ensures { IfOk result (λ yes. ty_matched inst.old typ.now wanted.now ≡ cond yes (Some inst.new) None) }
+{
+    match (typ.view(), wanted.view()) {
+        (TypNode::Unknown(name, number), _) => {
+            if let Some(found) = type_for(name, *number, inst.types().as_slice()) {
+                return Ok(same_typ(found, wanted));
+            }
+            inst.put_type(alloc, name.copy()?, *number, wanted.copy()?)?;
+            Ok(true)
+        }
+        (TypNode::Fixed(name), TypNode::Fixed(other)) => Ok(name.same(other)),
+        (TypNode::Con(name, args), TypNode::Con(other, others)) => Ok(
+            name.same(other) && extend_all_types(alloc, inst, args.as_slice(), others.as_slice())?,
+        ),
+        _ => Ok(false),
+    }
+}
+
+#[cycle(types)]
+fn extend_all_types(
+    alloc: Global,
+    inst: &mut Inst,
+    args: &[Typ],
+    others: &[Typ],
+) -> Result<bool, AllocError>
+    ensures { IfOk result (λ yes. tys_matched inst.old (tys_of args.now) (tys_of others.now) ≡ cond yes (Some inst.new) None) }
+{
+    match (args.split_first(), others.split_first()) {
+        (None, None) => Ok(true),
+        (Some((first, rest)), Some((other, more))) => Ok(
+            extend_types(alloc, inst, first, other)? && extend_all_types(alloc, inst, rest, more)?,
+        ),
+        _ => Ok(false),
+    }
+}
+
+/// The term as an unknown applied to bound variables, where it is one.
+fn flexible<'a>(alloc: Global, t: &'a Term) -> Result<Option<Spine<'a>>, AllocError>
+    ensures { IfOk result (λ found. option_map flexible_of found ≡ flexible t.now) }
+{
+    match t.view() {
+        TermNode::Unknown(name, number, typ) => Ok(Some(Spine {
+            name,
+            number: *number,
+            typ,
+            args: Vec::new(alloc),
+        })),
+        TermNode::App(fun, arg) => {
+            let Some(mut spine) = flexible(alloc, fun)? else {
+                return Ok(None);
+            };
+            let TermNode::Bound(number) = arg.view() else {
+                return Ok(None);
+            };
+            spine.args.push(*number)?;
+            Ok(Some(spine))
+        }
+        _ => Ok(None),
+    }
+}
+
+/// Adds the term for the unknown, unless another one stands for it.
+fn bind(alloc: Global, inst: &mut Inst, spine: &Spine<'_>, term: Term) -> Result<bool, AllocError>
+    ensures { IfOk result (λ yes. bound_to (find_term spine.now.name.now spine.now.number spine.now.typ.now inst.old.terms) inst.old (flexible_of spine.now) term ≡ cond yes (Some inst.new) None) }
+{
+    if let Some(found) = term_for(spine.name, spine.number, spine.typ, inst.terms().as_slice()) {
+        return Ok(same_term(found, &term));
+    }
+    inst.put_term(
+        alloc,
+        spine.name.copy()?,
+        spine.number,
+        spine.typ.copy()?,
+        term,
+    )?;
+    Ok(true)
+}
+
+/// Adds the abstraction of the term over the unknown's arguments, where no variable stays loose in it.
+fn solve(
+    alloc: Global,
+    binders: &Binders<'_>,
+    inst: &mut Inst,
+    spine: &Spine<'_>,
+    term: &Term,
+) -> Result<bool, AllocError>
+    ensures { IfOk result (λ yes. solved (binders_in binders.now) inst.old (flexible_of spine.now) term.now ≡ cond yes (Some inst.new) None) }
+{
+    let Some(found) = solution(alloc, binders, &spine.args, term)? else {
+        return Ok(false);
+    };
+    if !is_closed(0, &found)? {
+        return Ok(false);
+    }
+    bind(alloc, inst, spine, found)
+}
+
+/// The term, one binder deeper, applied to the variable of that binder.
+fn opened(alloc: Global, term: &Term) -> Result<Term, AllocError>
+    ensures { IfOk result (λ t. t ≡ App (raise 1 0 term.now) (Bound 0)) }
+{
+    let fun = raised(alloc, 1, 0, term)?;
+    let variable = Term::new(alloc, TermNode::Bound(0))?;
+    Term::new(alloc, TermNode::App(fun, variable))
+}
+
+/// Adds what makes the pattern equal to the term, where it can be had. If not, some of it may have been added.
+fn extend(
+    alloc: Global,
+    binders: &Binders<'_>,
+    inst: &mut Inst,
+    pattern: &Term,
+    term: &Term,
+) -> Result<bool, AllocError>
+    ensures { IfOk result (λ yes. matched (binders_in binders.now) inst.old pattern.now term.now ≡ cond yes (Some inst.new) None) }
+{
+    if let Some(spine) = flexible(alloc, pattern)? {
+        return solve(alloc, binders, inst, &spine, term);
+    }
+    match (pattern.view(), term.view()) {
+        (TermNode::Const(name, typ), TermNode::Const(other, wanted))
+        | (TermNode::Free(name, typ), TermNode::Free(other, wanted)) => Ok(
+            name.same(other) && extend_types(alloc, inst, typ, wanted)?,
+        ),
+        (TermNode::Bound(number), TermNode::Bound(other)) => Ok(*number == *other),
+        (TermNode::Abs(name, _, body), TermNode::Abs(_, typ, other)) => {
+            let under = Binders::Under(name, typ, binders);
+            extend(alloc, &under, inst, body, other)
+        }
+        (TermNode::Abs(name, typ, body), _) => {
+            let typ = inst_typ(alloc, inst.types().as_slice(), typ)?;
+            let under = Binders::Under(name, &typ, binders);
+            extend(alloc, &under, inst, body, &opened(alloc, term)?)
+        }
+        (TermNode::App(fun, arg), TermNode::App(other, argument)) => Ok(
+            extend(alloc, binders, inst, fun, other)?
+                && extend(alloc, binders, inst, arg, argument)?,
+        ),
+        _ => Ok(false),
+    }
+}
+
+/// The type of a term that is well typed without loose bound variables.
+fn closed_type(alloc: Global, t: &Term) -> Result<Option<Typ>, AllocError>
+    ensures { IfOk result (λ found. found ≡ closed_type t.now) }
+{
+    match type_of(alloc, t) {
+        Ok(typ) => Ok(Some(typ)),
+        Err(IllTyped::Memory) => Err(AllocError),
+        Err(_) => Ok(None),
+    }
+}
+
+/// The instance of the pattern's unknowns and type unknowns that makes the pattern equal to the term, if there is one.
+pub fn match_pattern(alloc: Global, pattern: &Term, term: &Term) -> Result<Option<Inst>, AllocError>
+    ensures answer { IfOk result (λ found. found ≡ match_of pattern.now term.now) }
+{
+    let Some(typ) = closed_type(alloc, pattern)? else {
+        return Ok(None);
+    };
+    let Some(wanted) = closed_type(alloc, term)? else {
+        return Ok(None);
+    };
+    let mut inst = Inst::new(alloc);
+    if !extend_types(alloc, &mut inst, &typ, &wanted)? {
+        return Ok(None);
+    }
+    let found = extend(alloc, &Binders::Outermost, &mut inst, pattern, term)?;
+    Ok(found.then_some(inst))
+}
