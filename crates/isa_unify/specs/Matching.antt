@@ -1,11 +1,13 @@
 -- Matches of patterns (Miller; Nipkow): each unknown of a pattern is applied to distinct bound variables only.
-use Rattle.std.specs.Prelude.{◌≡◌, ℕ, ◌+◌, nat_eq, nat_lt, Bool, true, false, ◌&&◌, ◌||◌, List, [], ◌∷◌, ◌++◌, slice_get, Option, Some, None, is_some, Ok, Err, if◌then◌else◌}
+use Rattle.std.specs.Prelude.{◌≡◌, ℕ, ◌+◌, nat_eq, nat_lt, Bool, true, false, ◌&&◌, ◌||◌, List, [], ◌∷◌, ◌++◌, slice_get, Option, Some, None, is_some, option_map, Ok, Err, if◌then◌else◌}
 use Rattle.isa_terms.specs.Types.{Ty, Tys, TyCon, TyFixed, TyUnknown, NoTys, MoreTys}
 use Rattle.isa_terms.specs.Terms.{Tm, Const, Free, Unknown, Bound, Abs, App, bare}
 use Rattle.isa_terms.specs.Equal.{name_eq, ty_eq, tm_eq}
-use Rattle.isa_terms.specs.Typing.{type_at}
+use Rattle.isa_terms.specs.Typing.{type_at, HasType}
 use Rattle.isa_terms.specs.Replace.{raise}
-use Rattle.isa_terms.specs.Norm.{eta}
+use Rattle.isa_terms.specs.Norm.{eta, norm}
+use Rattle.isa_terms.specs.Normal.{IsNormal}
+use Rattle.isa_terms.specs.Pattern.{is_pattern}
 use Rattle.isa_terms.specs.Instance.{Instance, find_type, find_term, inst_ty, instance_of, set_type, set_term}
 use Rattle.isa_conversion.specs.Instances.{IsKept}
 use Rattle.isa_unify.specs.TypeUnification.{ty_has}
@@ -40,6 +42,27 @@ pub record IsMatch (p t : Tm) (s : Instance) : Type 0 where
   pub terms : (x : List ℕ) (i : ℕ) (T : Ty) → is_some (find_term x i T s.terms) ≡ has_unknown x i T p
   pub kept : IsKept s.types s.terms
   pub gives : bare (instance_of s p) ≡ bare t
+
+-- what matching asks of a pattern and a term: they are well typed without loose bound variables, in normal form, and the one is a pattern
+pub record IsAsked (p t : Tm) : Type 0 where
+  pub pattern : is_pattern p ≡ true
+  pub pattern_type : Ty
+  pub pattern_typed : HasType p pattern_type
+  pub pattern_normal : IsNormal p
+  pub term_type : Ty
+  pub term_typed : HasType t term_type
+  pub normal : IsNormal t
+
+-- r has the types of s, and its terms are, but for the names of binders, those of s when they are in normal form
+pub record DoesAs (s r : Instance) : Type 0 where
+  pub types : (x : List ℕ) (i : ℕ) → find_type x i r.types ≡ find_type x i s.types
+  pub terms : (x : List ℕ) (i : ℕ) (T : Ty) → option_map (λ u. bare (norm u)) (find_term x i T r.terms) ≡ option_map bare (find_term x i T s.terms)
+
+-- s is the one match, with terms in normal form
+pub record IsTheMatch (p t : Tm) (s : Instance) : Type 0 where
+  pub is : IsMatch p t s
+  pub normal : (x : List ℕ) (i : ℕ) (T : Ty) (u : Tm) → find_term x i T s.terms ≡ Some u → IsNormal u
+  pub only : (r : Instance) → IsMatch p t r → DoesAs s r
 
 -- s and the types that make T to U
 abbrev mutual

@@ -1,11 +1,11 @@
 //! Matching of patterns.
 
-ghost use Rattle.std.specs.Prelude.{◌≡◌, ◌++◌, [], ◌∷◌, IfOk, cond, Some, None, Option, option_map};
+ghost use Rattle.std.specs.Prelude.{◌≡◌, ◌++◌, [], ◌∷◌, IfOk, IfSome, IfNone, cond, Some, None, Option, option_map};
 ghost use Rattle.isa_terms.specs.Types.{tys_of};
-ghost use Rattle.isa_terms.specs.Instance.{find_term};
+ghost use Rattle.isa_terms.specs.Instance.{Instance, find_term};
 ghost use Rattle.isa_terms.specs.Terms.{App, Bound};
 ghost use Rattle.isa_terms.specs.Replace.{raise};
-ghost use Rattle.isa_unify.specs.Matching.{ty_matched, tys_matched, flexible, bound_to, solved, typed, matched, closed_type, match_of};
+ghost use Rattle.isa_unify.specs.Matching.{ty_matched, tys_matched, flexible, bound_to, solved, typed, matched, closed_type, match_of, IsAsked, IsMatch, IsTheMatch};
 ghost use Rattle.isa_unify.specs.BinderLists.{binders_in, flexible_of};
 
 use crate::binders::{Binders, is_closed, solution};
@@ -181,9 +181,9 @@ fn closed_type(alloc: Global, t: &Term) -> Result<Option<Typ>, AllocError>
     }
 }
 
-/// The instance of the pattern's unknowns and type unknowns that makes the pattern equal to the term, if there is one.
-pub fn match_pattern(alloc: Global, pattern: &Term, term: &Term) -> Result<Option<Inst>, AllocError>
-    ensures answer { IfOk result (λ found. found ≡ match_of pattern.now term.now) }
+/// The match of the pattern with the term, if there is one.
+fn find_match(alloc: Global, pattern: &Term, term: &Term) -> Result<Option<Inst>, AllocError>
+    ensures { IfOk result (λ found. found ≡ match_of pattern.now term.now) }
 {
     let Some(typ) = closed_type(alloc, pattern)? else {
         return Ok(None);
@@ -197,4 +197,22 @@ pub fn match_pattern(alloc: Global, pattern: &Term, term: &Term) -> Result<Optio
     }
     let found = extend(alloc, &Binders::Outermost, &mut inst, pattern, term)?;
     Ok(found.then_some(inst))
+}
+
+/// The instance of the pattern's unknowns and type unknowns that makes the pattern equal to the term, if there is one.
+///
+/// The unknowns of the term count as constants. Where both are well typed without loose bound variables and in normal
+/// form, and the one is a pattern, it is the only one, and `None` comes where there is none. A term for an unknown takes
+/// the names of the bound variables to which the unknown is applied.
+#[tactic(auto, using(crate::proofs::MatchAnswers::found_match, crate::proofs::MatchAnswers::no_match))]
+pub fn match_pattern(
+    alloc: Global,
+    pattern: &Term,
+    term: &Term,
+) -> Result<Option<Inst>, AllocError>
+    ensures answer { IfOk result (λ found. found ≡ match_of pattern.now term.now) }
+    ensures found { IfOk result (λ found. IfSome found (λ inst. IsAsked pattern.now term.now → IsTheMatch pattern.now term.now inst)) }
+    ensures none { IfOk result (λ found. IfNone found (IsAsked pattern.now term.now → (s : Instance) → IsMatch pattern.now term.now s → ⊥)) }
+{
+    find_match(alloc, pattern, term)
 }
