@@ -17,7 +17,7 @@ pub fn height(typ: &Typ) -> Result<u64, AllocError>
 }
 
 /// The abstraction over the body, eta short.
-fn abstraction(alloc: Global, name: &Name, typ: &Typ, body: Term) -> Result<Term, AllocError>
+pub fn abstraction(alloc: Global, name: &Name, typ: &Typ, body: Term) -> Result<Term, AllocError>
     ensures { IfOk result (λ t. t ≡ eta name.now typ.now body) }
 {
     if let TermNode::App(fun, arg) = body.view() {
