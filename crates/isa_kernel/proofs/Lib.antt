@@ -10,3 +10,4 @@ pub mod Generals
 pub mod TypeInstances
 pub mod Theories
 pub mod Quantifier
+pub mod Bases

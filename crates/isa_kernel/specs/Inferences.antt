@@ -1,4 +1,4 @@
--- What the inferences answer.
+-- What the inferences answer, each for its own form of arguments, and None for any other. They are those of Isabelle/Pure (The Isabelle/Isar Implementation Manual, "Primitive logic").
 use Rattle.std.specs.Prelude.{◌≡◌, ℕ, List, [], ◌∷◌, Option, Some, None, Bool, true, false, ◌&&◌, not, if◌then◌else◌, Result, Ok, Err}
 use Rattle.isa_terms.specs.Types.{Ty}
 use Rattle.isa_terms.specs.Terms.{Tm, Abs, App}

@@ -1,4 +1,4 @@
--- The facts of an object logic, by their roles.
+-- The facts of an object logic, by the roles that they play for the simplifier and the classical reasoner (the Isabelle/Isar Reference Manual, "Generic tools and packages").
 use Rattle.std.specs.Prelude.{List, [], ◌∷◌, ◌++◌, None, option_to_list}
 use Rattle.isa_kernel.specs.declared.axioms.NamedProp.{NamedProp}
 use Rattle.isa_kernel.specs.Axioms.{joined_bases}

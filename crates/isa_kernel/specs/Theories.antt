@@ -1,4 +1,4 @@
--- Theories: what is declared, in the order of the declarations.
+-- Theories: what is declared, in the order of the declarations. Isabelle/Pure's signatures (The Isabelle/Isar Implementation Manual, "Types" and "Terms"), without sorts.
 use Rattle.std.specs.Prelude.{◌≡◌, ℕ, List, [], ◌∷◌, ◌++◌, Bool, true, Option, Some, None, Result, Ok, Err, is_some, option_map, codes, length, nat_eq, if◌then◌else◌}
 use Rattle.std.specs.Option.{option_or}
 use Rattle.std.specs.Map.{lookup}

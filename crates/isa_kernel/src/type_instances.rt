@@ -1,23 +1,10 @@
 ghost use Rattle.std.specs.Prelude.{◌≡◌, [], IfOk};
-ghost use Rattle.std.specs.Option.{option_copied};
 ghost use Rattle.isa_terms.specs.Types.{tys_of};
 ghost use Rattle.isa_terms.specs.Instance.{find_type};
 ghost use Rattle.isa_kernel.specs.TypeInstances.{bound_to, matched, all_matched, is_instance};
 
-use isa_terms::{Name, Typ, TypNode, TypeEntries, TypeEntry, same_typ};
+use isa_terms::{Name, Typ, TypNode, TypeEntries, TypeEntry, find_type, same_typ};
 use std::alloc::{AllocError, Global};
-
-/// The type that was found for the type unknown.
-fn find_type<'e>(name: &Name, number: u32, types: &'e [TypeEntry]) -> Option<&'e Typ>
-    ensures { option_copied result ≡ find_type name.now number types.now }
-{
-    for entry in types {
-        if name.same(&entry.name) && number == entry.number {
-            return Some(&entry.typ);
-        }
-    }
-    None
-}
 
 /// The types found so far, where the type unknown stands for the type or for nothing yet.
 fn bind(
