@@ -7,6 +7,8 @@ mod lookup;
 mod matching;
 mod numbers;
 mod progress;
+#[cfg(test)]
+mod tests;
 mod types;
 
 pub use matching::match_pattern;
