@@ -2,6 +2,7 @@ pub mod Descent
 pub mod Tests
 pub mod TypeInstances
 pub mod TypesUnify
+pub mod Resolved
 pub mod Stacks
 pub mod TypeMatches
 pub mod Unknowns

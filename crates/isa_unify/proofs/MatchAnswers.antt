@@ -195,13 +195,15 @@ is_match p t q s k f h =
     let dt = typed_of_type [] t k.term_type k.term_typed in
     let types = ty_finds k.pattern_type k.term_type nothing q f in
     let found = sound p t [] [] k.pattern_type k.term_type q s (pattern_parts p k.pattern_normal k.pattern) k.normal dp dt tt (inr types.fit) h in
-    let good = found.good (subst (AllGood q.types) (sym types.terms) tt) in
-    (record {
-       types = λ x i. same_test (is_some (find_type x i s.types)) (has_type_unknown x i p) (λ e. at_types x i dp (found.only_types x i e) (types.only x i)) (found.types x i);
-       terms = λ x i T. same_test (is_some (find_term x i T s.terms)) (has_unknown x i T p) (λ e. at_terms x i T types.terms (found.only_terms x i T e)) (found.terms x i T);
-       kept = good_kept s.types s.terms good;
-       gives = conv_norm (found.gives s (types_within_self s.types) (terms_within_self s.terms)) ∙ ap bare (norm_same t k.normal);
-     }, good)
+    let good = found.good (subst (AllGood q.types) (sym types.terms) tt) in (
+      record {
+        types = λ x i. same_test (is_some (find_type x i s.types)) (has_type_unknown x i p) (λ e. at_types x i dp (found.only_types x i e) (types.only x i)) (found.types x i);
+        terms = λ x i T. same_test (is_some (find_term x i T s.terms)) (has_unknown x i T p) (λ e. at_terms x i T types.terms (found.only_terms x i T e)) (found.terms x i T);
+        kept = good_kept s.types s.terms good;
+        gives = conv_norm (found.gives s (types_within_self s.types) (terms_within_self s.terms)) ∙ ap bare (norm_same t k.normal);
+      },
+      good,
+    )
   where
     at_first : (x : List ℕ) (i : ℕ) → Typed [] p k.pattern_type → (false ≡ true) ⊎ (ty_has x i k.pattern_type ≡ true) → has_type_unknown x i p ≡ true
     at_first x i d (inl e) = absurd (cc)

@@ -17,6 +17,8 @@ mod places;
 mod progress;
 mod spines;
 mod steps;
+#[cfg(test)]
+mod tests;
 mod types;
 mod unification;
 

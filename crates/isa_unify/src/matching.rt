@@ -205,11 +205,7 @@ fn find_match(alloc: Global, pattern: &Term, term: &Term) -> Result<Option<Inst>
 /// form, and the one is a pattern, it is the only one, and `None` comes where there is none. A term for an unknown takes
 /// the names of the bound variables to which the unknown is applied.
 #[tactic(auto, using(crate::proofs::MatchAnswers::found_match, crate::proofs::MatchAnswers::no_match))]
-pub fn match_pattern(
-    alloc: Global,
-    pattern: &Term,
-    term: &Term,
-) -> Result<Option<Inst>, AllocError>
+pub fn match_pattern(alloc: Global, pattern: &Term, term: &Term) -> Result<Option<Inst>, AllocError>
     ensures answer { IfOk result (λ found. found ≡ match_of pattern.now term.now) }
     ensures found { IfOk result (λ found. IfSome found (λ inst. IsAsked pattern.now term.now → IsTheMatch pattern.now term.now inst)) }
     ensures none { IfOk result (λ found. IfNone found (IsAsked pattern.now term.now → (s : Instance) → IsMatch pattern.now term.now s → ⊥)) }
