@@ -15,3 +15,4 @@ pub mod Solutions
 pub mod PatternMatches
 pub mod PatternComplete
 pub mod MatchAnswers
+pub mod AllMatches

@@ -11,5 +11,5 @@ mod progress;
 mod tests;
 mod types;
 
-pub use matching::match_pattern;
+pub use matching::{match_pattern, match_patterns};
 pub use types::{TypePair, unify_type_pairs, unify_types};
