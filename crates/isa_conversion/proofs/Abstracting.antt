@@ -44,19 +44,19 @@ abbrev pub Among : ℕ → List ℕ → Type 0
 Among n [] = ⊥
 Among n (m ∷ ms) = (n ≡ m) ⊎ Among n ms
 
-neither : (a b : Bool) → a ≡ false → b ≡ false → (a || b) ≡ false
+pub neither : (a b : Bool) → a ≡ false → b ≡ false → (a || b) ≡ false
 neither true b h k = cc
 neither false b h k = k
 
-eq_swap : (n m : ℕ) → nat_eq n m ≡ false → nat_eq m n ≡ false
+pub eq_swap : (n m : ℕ) → nat_eq n m ≡ false → nat_eq m n ≡ false
 eq_swap n m h = grind (arith, nat_tests)
 
-missing_more : (n : ℕ) (v : Tm) (ns : List ℕ) → Absent n ns → AreMissing ns v → AreMissing ns (App v (Bound n))
+pub missing_more : (n : ℕ) (v : Tm) (ns : List ℕ) → Absent n ns → AreMissing ns v → AreMissing ns (App v (Bound n))
 missing_more n v [] a m = tt
 missing_more n v (k ∷ ks) a m = (neither (loose k v) (nat_eq n k) m.0 a.0, missing_more n v ks a.1 m.1)
 
 -- the variable that is abstracted is not loose, and no other comes
-over_own_bound : (n k i : ℕ) (b c : Bool) → nat_lt i k ≡ b → nat_eq i (n + k) ≡ c → loose (n + k + 1) (cond b (Bound i) (cond c (Bound k) (Bound (i + 1)))) ≡ false
+pub over_own_bound : (n k i : ℕ) (b c : Bool) → nat_lt i k ≡ b → nat_eq i (n + k) ≡ c → loose (n + k + 1) (cond b (Bound i) (cond c (Bound k) (Bound (i + 1)))) ≡ false
 over_own_bound n k i true c h l = grind (arith, nat_tests)
 over_own_bound n k i false true h l = grind (arith, nat_tests)
 over_own_bound n k i false false h l = grind (arith, nat_tests)
@@ -69,11 +69,11 @@ over_own n k (Bound i) = over_own_bound n k i (nat_lt i k) (nat_eq i (n + k)) re
 over_own n k (Abs x T b) = let e : n + k + 1 + 1 ≡ n + (k + 1) + 1 = omega arith in ap (λ j. loose j (over n (k + 1) b)) e ∙ over_own n (k + 1) b
 over_own n k (App f a) = neither (loose (n + k + 1) (over n k f)) (loose (n + k + 1) (over n k a)) (over_own n k f) (over_own n k a)
 
-or_false : (a b : Bool) → (a || b) ≡ false → (a ≡ false) × (b ≡ false)
+pub or_false : (a b : Bool) → (a || b) ≡ false → (a ≡ false) × (b ≡ false)
 or_false true b e = cc
 or_false false b e = (refl, e)
 
-over_other_bound : (n j k i : ℕ) (b c : Bool) → nat_lt i k ≡ b → nat_eq i (n + k) ≡ c → nat_eq i (j + k) ≡ false → loose (j + k + 1) (cond b (Bound i) (cond c (Bound k) (Bound (i + 1)))) ≡ false
+pub over_other_bound : (n j k i : ℕ) (b c : Bool) → nat_lt i k ≡ b → nat_eq i (n + k) ≡ c → nat_eq i (j + k) ≡ false → loose (j + k + 1) (cond b (Bound i) (cond c (Bound k) (Bound (i + 1)))) ≡ false
 over_other_bound n j k i true c h l m = grind (arith, nat_tests)
 over_other_bound n j k i false true h l m = grind (arith, nat_tests)
 over_other_bound n j k i false false h l m = grind (arith, nat_tests)
@@ -111,34 +111,34 @@ moved xs k (Bound n) = cond (nat_lt n k) (Bound n) (Bound (k + place_behind xs (
 moved xs k (Abs x T b) = Abs x T (moved xs (k + 1) b)
 moved xs k (App f a) = App (moved xs k f) (moved xs k a)
 
-over_low : (n k i : ℕ) → i < k → over n k (Bound i) ≡ Bound i
+pub over_low : (n k i : ℕ) → i < k → over n k (Bound i) ≡ Bound i
 over_low n k i h = let t : nat_lt i k ≡ true = grind (arith, nat_tests) in ap (λ b. cond b (Bound i) (cond (nat_eq i (n + k)) (Bound k) (Bound (i + 1)))) t
 
-over_high : (n k i : ℕ) → k ≤ i → i ≢ n + k → over n k (Bound i) ≡ Bound (i + 1)
+pub over_high : (n k i : ℕ) → k ≤ i → i ≢ n + k → over n k (Bound i) ≡ Bound (i + 1)
 over_high n k i h ne =
     let t : nat_lt i k ≡ false = grind (arith, nat_tests) in
     let e : nat_eq i (n + k) ≡ false = grind (arith, nat_tests) in
     ap (λ b. cond b (Bound i) (cond (nat_eq i (n + k)) (Bound k) (Bound (i + 1)))) t ∙ ap (λ b. cond b (Bound k) (Bound (i + 1))) e
 
-over_hit : (n k i : ℕ) → i ≡ n + k → over n k (Bound i) ≡ Bound k
+pub over_hit : (n k i : ℕ) → i ≡ n + k → over n k (Bound i) ≡ Bound k
 over_hit n k i q =
     let t : nat_lt i k ≡ false = grind (arith, nat_tests) in
     let e : nat_eq i (n + k) ≡ true = grind (arith, nat_tests) in
     ap (λ b. cond b (Bound i) (cond (nat_eq i (n + k)) (Bound k) (Bound (i + 1)))) t ∙ ap (λ b. cond b (Bound k) (Bound (i + 1))) e
 
-chain_low : (ns : List ℕ) (k i : ℕ) → i < k → chain ns k (Bound i) ≡ Bound i
+pub chain_low : (ns : List ℕ) (k i : ℕ) → i < k → chain ns k (Bound i) ≡ Bound i
 chain_low [] k i h = refl
 chain_low (n ∷ ns) k i h = ap (over n (length ns + k)) (chain_low ns k i h) ∙ over_low n (length ns + k) i (omega arith)
 
 -- the variable j of the outer binders
-chain_absent : (ns : List ℕ) (k j : ℕ) → Absent j ns → chain ns k (Bound (j + k)) ≡ Bound (j + k + length ns)
+pub chain_absent : (ns : List ℕ) (k j : ℕ) → Absent j ns → chain ns k (Bound (j + k)) ≡ Bound (j + k + length ns)
 chain_absent [] k j a = let e : j + k ≡ j + k + 0 = omega arith in ap Bound e
 chain_absent (n ∷ ns) k j a =
     let ne : j ≢ n = grind (arith, nat_tests, a.0) in
     let e : j + k + length ns + 1 ≡ j + k + suc (length ns) = omega arith in
     ap (over n (length ns + k)) (chain_absent ns k j a.1) ∙ over_high n (length ns + k) (j + k + length ns) (omega arith) (λ q. ne (omega (arith, q))) ∙ ap Bound e
 
-place_less : (ns : List ℕ) (j : ℕ) → Among j ns → place_behind ns j < length ns
+pub place_less : (ns : List ℕ) (j : ℕ) → Among j ns → place_behind ns j < length ns
 place_less [] j h = absurd h
 place_less (n ∷ ns) j (inl e) = let t : nat_eq n j ≡ true = grind (arith, nat_tests) in subst (λ b. cond b (length ns) (place_behind ns j) < suc (length ns)) (sym t) (omega arith)
 place_less (n ∷ ns) j (inr h) = choice (nat_eq n j) (place_less ns j h)
@@ -147,10 +147,10 @@ place_less (n ∷ ns) j (inr h) = choice (nat_eq n j) (place_less ns j h)
     choice true r = omega arith
     choice false r = omega arith
 
-absent_same : (n j : ℕ) (ns : List ℕ) → nat_eq n j ≡ true → Absent n ns → Absent j ns
+pub absent_same : (n j : ℕ) (ns : List ℕ) → nat_eq n j ≡ true → Absent n ns → Absent j ns
 absent_same n j ns h a = let e : n ≡ j = grind (arith, nat_tests) in subst (λ m. Absent m ns) e a
 
-chain_among : (ns : List ℕ) → AreDistinct ns → (k j : ℕ) → Among j ns → chain ns k (Bound (j + k)) ≡ Bound (k + place_behind ns j)
+pub chain_among : (ns : List ℕ) → AreDistinct ns → (k j : ℕ) → Among j ns → chain ns k (Bound (j + k)) ≡ Bound (k + place_behind ns j)
 chain_among [] d k j h = absurd h
 chain_among (n ∷ ns) d k j h = choice (nat_eq n j) refl h (λ g. chain_among ns d.1 k j g)
   where
@@ -164,29 +164,29 @@ chain_among (n ∷ ns) d k j h = choice (nat_eq n j) refl h (λ g. chain_among n
         let lt = place_less ns j h in
         ap (over n (length ns + k)) (r h) ∙ over_low n (length ns + k) (k + place_behind ns j) (omega arith)
 
-chain_app : (ns : List ℕ) (k : ℕ) (f a : Tm) → chain ns k (App f a) ≡ App (chain ns k f) (chain ns k a)
+pub chain_app : (ns : List ℕ) (k : ℕ) (f a : Tm) → chain ns k (App f a) ≡ App (chain ns k f) (chain ns k a)
 chain_app [] k f a = refl
 chain_app (n ∷ ns) k f a = ap (over n (length ns + k)) (chain_app ns k f a)
 
-chain_abs : (ns : List ℕ) (k : ℕ) (x : List ℕ) (T : Ty) (b : Tm) → chain ns k (Abs x T b) ≡ Abs x T (chain ns (k + 1) b)
+pub chain_abs : (ns : List ℕ) (k : ℕ) (x : List ℕ) (T : Ty) (b : Tm) → chain ns k (Abs x T b) ≡ Abs x T (chain ns (k + 1) b)
 chain_abs [] k x T b = refl
 chain_abs (n ∷ ns) k x T b =
     let e : length ns + k + 1 ≡ length ns + (k + 1) = omega arith in
     ap (over n (length ns + k)) (chain_abs ns k x T b) ∙ ap (λ j. Abs x T (over n j (chain ns (k + 1) b))) e
 
-chain_const : (ns : List ℕ) (k : ℕ) (x : List ℕ) (T : Ty) → chain ns k (Const x T) ≡ Const x T
+pub chain_const : (ns : List ℕ) (k : ℕ) (x : List ℕ) (T : Ty) → chain ns k (Const x T) ≡ Const x T
 chain_const [] k x T = refl
 chain_const (n ∷ ns) k x T = ap (over n (length ns + k)) (chain_const ns k x T)
 
-chain_free : (ns : List ℕ) (k : ℕ) (x : List ℕ) (T : Ty) → chain ns k (Free x T) ≡ Free x T
+pub chain_free : (ns : List ℕ) (k : ℕ) (x : List ℕ) (T : Ty) → chain ns k (Free x T) ≡ Free x T
 chain_free [] k x T = refl
 chain_free (n ∷ ns) k x T = ap (over n (length ns + k)) (chain_free ns k x T)
 
-chain_unknown : (ns : List ℕ) (k : ℕ) (x : List ℕ) (i : ℕ) (T : Ty) → chain ns k (Unknown x i T) ≡ Unknown x i T
+pub chain_unknown : (ns : List ℕ) (k : ℕ) (x : List ℕ) (i : ℕ) (T : Ty) → chain ns k (Unknown x i T) ≡ Unknown x i T
 chain_unknown [] k x i T = refl
 chain_unknown (n ∷ ns) k x i T = ap (over n (length ns + k)) (chain_unknown ns k x i T)
 
-chain_bound : (ns : List ℕ) → AreDistinct ns → (k i : ℕ) (b : Bool) → nat_lt i k ≡ b → ((j : ℕ) → Among j ns ⊎ (nat_eq i (j + k) ≡ false)) → chain ns k (Bound i) ≡ cond b (Bound i) (Bound (k + place_behind ns (i - k)))
+pub chain_bound : (ns : List ℕ) → AreDistinct ns → (k i : ℕ) (b : Bool) → nat_lt i k ≡ b → ((j : ℕ) → Among j ns ⊎ (nat_eq i (j + k) ≡ false)) → chain ns k (Bound i) ≡ cond b (Bound i) (Bound (k + place_behind ns (i - k)))
 chain_bound ns d k i true h m = let lt : i < k = grind (arith, nat_tests) in chain_low ns k i lt
 chain_bound ns d k i false h m = choice (m (i - k))
   where
@@ -286,7 +286,7 @@ module _ (name_at : ℕ → List ℕ) (typ_at : ℕ → Ty) where
   eta_tower_only ns T k a m d c = CTrans (tower_only ns T k a m d c) (eta_tower_conv ns k (right_typed c))
 
   -- ---- what is loose in `%ns. t`
-  other_misses : (n : ℕ) (ns : List ℕ) (t : Tm) (j : ℕ) → loose j (tower ns t) ≡ false → loose (j + 1) (over n 0 (tower ns t)) ≡ false
+  pub other_misses : (n : ℕ) (ns : List ℕ) (t : Tm) (j : ℕ) → loose j (tower ns t) ≡ false → loose (j + 1) (over n 0 (tower ns t)) ≡ false
   other_misses n ns t j h =
       let e : j + 1 ≡ j + 0 + 1 = omega arith in
       let f : j + 0 ≡ j = omega arith in
@@ -327,13 +327,13 @@ module _ (name_at : ℕ → List ℕ) (typ_at : ℕ → Ty) where
       let c = eta_plain_conv ns b p.2 in
       subst (λ V. Conv G V (plain (n ∷ ns) b) (eta_plain (n ∷ ns) b)) (sym p.1) (CTrans (CAbs c) (eta_conv G (name_at n) (typ_at n) p.0 (eta_plain ns b) (right_typed c)))
 
-  over_plain : (n k : ℕ) (ns : List ℕ) (b : Tm) → over n k (plain ns b) ≡ plain ns (over n (k + length ns) b)
+  pub over_plain : (n k : ℕ) (ns : List ℕ) (b : Tm) → over n k (plain ns b) ≡ plain ns (over n (k + length ns) b)
   over_plain n k [] b = let e : k ≡ k + 0 = omega arith in ap (λ j. over n j b) e
   over_plain n k (m ∷ ns) b =
       let e : k + 1 + length ns ≡ k + suc (length ns) = omega arith in
       ap (Abs (name_at m) (typ_at m)) (over_plain n (k + 1) ns b ∙ ap (λ j. plain ns (over n j b)) e)
 
-  tower_plain : (ns : List ℕ) (t : Tm) → tower ns t ≡ plain ns (chain ns 0 t)
+  pub tower_plain : (ns : List ℕ) (t : Tm) → tower ns t ≡ plain ns (chain ns 0 t)
   tower_plain [] t = refl
   tower_plain (n ∷ ns) t =
       let e : 0 + length ns ≡ length ns + 0 = omega arith in

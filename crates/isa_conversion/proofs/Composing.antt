@@ -24,7 +24,7 @@ module _ (es : List TypeEntry) (fs : List TermEntry) (es1 : List TypeEntry) (fs1
   abbrev Both : Tm → Tm
   Both t = inst_tm es2 fs2 (inst_tm es1 fs1 t)
 
-  unknown_followed : (G : List Ty) (x : List ℕ) (i : ℕ) (T : Ty) → IsFollowed es fs es1 fs1 es2 fs2 (Unknown x i T) → Conv G (inst_ty es T) (inst_tm es fs (Unknown x i T)) (Both (Unknown x i T))
+  pub unknown_followed : (G : List Ty) (x : List ℕ) (i : ℕ) (T : Ty) → IsFollowed es fs es1 fs1 es2 fs2 (Unknown x i T) → Conv G (inst_ty es T) (inst_tm es fs (Unknown x i T)) (Both (Unknown x i T))
   unknown_followed G x i T h =
       let d : Typed [] (inst_tm es1 fs1 (Unknown x i T)) (inst_ty es1 T) = unknown_typed es1 fs1 [] x i T kept1 in
       let e : Typed (map (inst_ty es2) []) (Both (Unknown x i T)) (inst_ty es2 (inst_ty es1 T)) = inst_typed es2 fs2 kept2 d in
@@ -44,7 +44,7 @@ module _ (es : List TypeEntry) (fs : List TermEntry) (es1 : List TypeEntry) (fs1
   followed_norm d h = conv_norm (followed_conv d h) ∙ sym (inst_norm es2 fs2 kept2 (inst_typed es1 fs1 kept1 d))
 
 -- ---- the instance that is made for given terms
-after_found : (es1 es2 : List TypeEntry) (x : List ℕ) (i : ℕ) → unwrap_or (find_type x i (types_after es1 es2)) (TyUnknown x i) ≡ inst_ty es2 (unwrap_or (find_type x i es1) (TyUnknown x i))
+pub after_found : (es1 es2 : List TypeEntry) (x : List ℕ) (i : ℕ) → unwrap_or (find_type x i (types_after es1 es2)) (TyUnknown x i) ≡ inst_ty es2 (unwrap_or (find_type x i es1) (TyUnknown x i))
 after_found [] es2 x i = refl
 after_found (e ∷ es1) es2 x i = choice (name_eq x e.name && nat_eq i e.number) (after_found es1 es2 x i)
   where
@@ -69,7 +69,7 @@ Covers fs (Abs x T b) = Covers fs b
 Covers fs (App f a) = Covers fs f × Covers fs a
 Covers fs _ = Unit {0}
 
-some_front : (x : List ℕ) (i : ℕ) (T : Ty) (fs gs : List TermEntry) → is_some (find_term x i T fs) ≡ true → is_some (find_term x i T (fs ++ gs)) ≡ true
+pub some_front : (x : List ℕ) (i : ℕ) (T : Ty) (fs gs : List TermEntry) → is_some (find_term x i T fs) ≡ true → is_some (find_term x i T (fs ++ gs)) ≡ true
 some_front x i T [] gs h = cc
 some_front x i T (f ∷ fs) gs h = choice (name_eq x f.name && (nat_eq i f.number && ty_eq T f.typ)) (λ k. some_front x i T fs gs k) h
   where
@@ -77,7 +77,7 @@ some_front x i T (f ∷ fs) gs h = choice (name_eq x f.name && (nat_eq i f.numbe
     choice true r k = refl
     choice false r k = r k
 
-some_back : (x : List ℕ) (i : ℕ) (T : Ty) (fs gs : List TermEntry) → is_some (find_term x i T gs) ≡ true → is_some (find_term x i T (fs ++ gs)) ≡ true
+pub some_back : (x : List ℕ) (i : ℕ) (T : Ty) (fs gs : List TermEntry) → is_some (find_term x i T gs) ≡ true → is_some (find_term x i T (fs ++ gs)) ≡ true
 some_back x i T [] gs h = h
 some_back x i T (f ∷ fs) gs h = choice (name_eq x f.name && (nat_eq i f.number && ty_eq T f.typ)) (some_back x i T fs gs h)
   where
@@ -85,7 +85,7 @@ some_back x i T (f ∷ fs) gs h = choice (name_eq x f.name && (nat_eq i f.number
     choice true r = refl
     choice false r = r
 
-covers_front : (fs gs : List TermEntry) (t : Tm) → Covers fs t → Covers (fs ++ gs) t
+pub covers_front : (fs gs : List TermEntry) (t : Tm) → Covers fs t → Covers (fs ++ gs) t
 covers_front fs gs (Const x T) h = tt
 covers_front fs gs (Free x T) h = tt
 covers_front fs gs (Unknown x i T) h = some_front x i T fs gs h
@@ -93,7 +93,7 @@ covers_front fs gs (Bound n) h = tt
 covers_front fs gs (Abs x T b) h = covers_front fs gs b h
 covers_front fs gs (App f a) h = (covers_front fs gs f h.0, covers_front fs gs a h.1)
 
-covers_back : (fs gs : List TermEntry) (t : Tm) → Covers gs t → Covers (fs ++ gs) t
+pub covers_back : (fs gs : List TermEntry) (t : Tm) → Covers gs t → Covers (fs ++ gs) t
 covers_back fs gs (Const x T) h = tt
 covers_back fs gs (Free x T) h = tt
 covers_back fs gs (Unknown x i T) h = some_back x i T fs gs h
@@ -104,17 +104,17 @@ covers_back fs gs (App f a) h = (covers_back fs gs f h.0, covers_back fs gs a h.
 name_self : (x : List ℕ) → name_eq x x ≡ true
 name_self x = (bytes_decides x x).1 refl
 
-number_self : (i : ℕ) → nat_eq i i ≡ true
+pub number_self : (i : ℕ) → nat_eq i i ≡ true
 number_self i = grind (arith, nat_tests)
 
-typ_self : (T : Ty) → ty_eq T T ≡ true
+pub typ_self : (T : Ty) → ty_eq T T ≡ true
 typ_self T = (ty_decides T T).1 refl
 
-and_true : (a b : Bool) → (a && b) ≡ true → (a ≡ true) × (b ≡ true)
+pub and_true : (a b : Bool) → (a && b) ≡ true → (a ≡ true) × (b ≡ true)
 and_true true b e = (refl, e)
 and_true false b e = cc
 
-kept_append : (es : List TypeEntry) (fs gs : List TermEntry) → IsKept es fs → IsKept es gs → IsKept es (fs ++ gs)
+pub kept_append : (es : List TypeEntry) (fs gs : List TermEntry) → IsKept es fs → IsKept es gs → IsKept es (fs ++ gs)
 kept_append es [] gs h k = k
 kept_append es (f ∷ fs) gs h k = (h.0, kept_append es fs gs h.1 k)
 
@@ -124,7 +124,7 @@ module _ (es1 : List TypeEntry) (fs1 : List TermEntry) (es2 : List TypeEntry) (f
   AreAfter [] = Unit {0}
   AreAfter (f ∷ fs) = (f.term ≡ inst_tm es2 fs2 (inst_tm es1 fs1 (Unknown f.name f.number f.typ))) × AreAfter fs
 
-  after_append : (fs gs : List TermEntry) → AreAfter fs → AreAfter gs → AreAfter (fs ++ gs)
+  pub after_append : (fs gs : List TermEntry) → AreAfter fs → AreAfter gs → AreAfter (fs ++ gs)
   after_append [] gs h k = k
   after_append (f ∷ fs) gs h k = (h.0, after_append fs gs h.1 k)
 
@@ -153,7 +153,7 @@ module _ (es1 : List TypeEntry) (fs1 : List TermEntry) (es2 : List TypeEntry) (f
       let gs = terms_after es1 fs1 es2 fs2 a in
       (covers_front fs gs f (terms_cover f), covers_back fs gs a (terms_cover a))
 
-  cover_back : (fs gs : List TermEntry) (ts : List Tm) → Each (λ t. Covers gs t) ts → Each (λ t. Covers (fs ++ gs) t) ts
+  pub cover_back : (fs gs : List TermEntry) (ts : List Tm) → Each (λ t. Covers gs t) ts → Each (λ t. Covers (fs ++ gs) t) ts
   cover_back fs gs [] c = tt
   cover_back fs gs (t ∷ ts) c = (covers_back fs gs t c.0, cover_back fs gs ts c.1)
 
@@ -165,7 +165,7 @@ module _ (es1 : List TypeEntry) (fs1 : List TermEntry) (es2 : List TypeEntry) (f
       (covers_front fs gs t (terms_cover t), cover_back fs gs ts (all_cover ts))
 
   -- what is found for an unknown
-  found_after : (x : List ℕ) (i : ℕ) (T : Ty) (fs : List TermEntry) → AreAfter fs → is_some (find_term x i T fs) ≡ true → (u : Tm) → unwrap_or (find_term x i T fs) u ≡ inst_tm es2 fs2 (inst_tm es1 fs1 (Unknown x i T))
+  pub found_after : (x : List ℕ) (i : ℕ) (T : Ty) (fs : List TermEntry) → AreAfter fs → is_some (find_term x i T fs) ≡ true → (u : Tm) → unwrap_or (find_term x i T fs) u ≡ inst_tm es2 fs2 (inst_tm es1 fs1 (Unknown x i T))
   found_after x i T [] h k u = cc
   found_after x i T (f ∷ fs) h k u = choice (name_eq x f.name && (nat_eq i f.number && ty_eq T f.typ)) refl (λ l. found_after x i T fs h.1 l u) k
     where

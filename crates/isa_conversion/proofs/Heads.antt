@@ -76,7 +76,7 @@ head_norm (Bound k) h = refl
 head_norm (Unknown x i T) h = refl
 head_norm (Abs x T b) h = absurd h
 
-map_append : (f : Tm → Tm) (ts us : List Tm) → map f (ts ++ us) ≡ map f ts ++ map f us
+pub map_append : (f : Tm → Tm) (ts us : List Tm) → map f (ts ++ us) ≡ map f ts ++ map f us
 map_append f [] us = refl
 map_append f (t ∷ ts) us = ap (λ vs. f t ∷ vs) (map_append f ts us)
 
@@ -130,10 +130,10 @@ args_inst es fs (Unknown x i T) h = absurd h
 args_inst es fs (Abs x T b) h = absurd h
 
 -- ---- decomposition
-app_fun : {f g a b : Tm} → App f a ≡ App g b → f ≡ g
+pub app_fun : {f g a b : Tm} → App f a ≡ App g b → f ≡ g
 app_fun e = cc
 
-app_arg : {f g a b : Tm} → App f a ≡ App g b → a ≡ b
+pub app_arg : {f g a b : Tm} → App f a ≡ App g b → a ≡ b
 app_arg e = cc
 
 -- applications with one normal form have functions and arguments with one

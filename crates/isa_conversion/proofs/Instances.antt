@@ -21,15 +21,15 @@ use Rattle.isa_conversion.proofs.Names.{same_conv, norm_same_conv}
 use Rattle.isa_conversion.proofs.Unique.{conv_norm}
 
 -- ---- terms whose loose variables all lie below the place
-get_below : (G : List Ty) (n : ℕ) (T : Ty) → slice_get G n ≡ Some T → n < length G
+pub get_below : (G : List Ty) (n : ℕ) (T : Ty) → slice_get G n ≡ Some T → n < length G
 get_below [] n T e = cc
 get_below (S ∷ G) zero T e = omega arith
 get_below (S ∷ G) (suc n) T e = let lt = get_below G n T e in omega arith
 
-one_more : (n : ℕ) → suc n ≡ n + 1
+pub one_more : (n : ℕ) → suc n ≡ n + 1
 one_more n = omega arith
 
-raise_below : (n k i : ℕ) → i < k → raise n k (Bound i) ≡ Bound i
+pub raise_below : (n k i : ℕ) → i < k → raise n k (Bound i) ≡ Bound i
 raise_below n k i h = let t : nat_lt i k ≡ true = grind (arith, nat_tests) in ap (λ b. cond b (Bound i) (Bound (i + n))) t
 
 pub raise_same : {G : List Ty} {t : Tm} {T : Ty} → Typed G t T → (n k : ℕ) → length G ≤ k → raise n k t ≡ t
@@ -40,7 +40,7 @@ raise_same (TBound {G} {n = i} {T} g) n k h = let lt = get_below G i T g in rais
 raise_same (TAbs {G} {x} {S} d) n k h = ap (Abs x S) (raise_same d n (k + 1) (omega arith))
 raise_same (TApp d e) n k h = λ i. App (raise_same d n k h i) (raise_same e n k h i)
 
-put_below : (a : Tm) (k i : ℕ) → i < k → put a k (Bound i) ≡ Bound i
+pub put_below : (a : Tm) (k i : ℕ) → i < k → put a k (Bound i) ≡ Bound i
 put_below a k i h =
     let e : nat_eq i k ≡ false = grind (arith, nat_tests) in
     let l : nat_lt k i ≡ false = grind (arith, nat_tests) in
@@ -59,7 +59,7 @@ pub closed_anywhere : {t : Tm} {T : Ty} (G : List Ty) → Typed [] t T → Typed
 closed_anywhere {t} {T} G d = subst (λ K. Typed K t T) (append-nil G) (subst (λ g. Typed (G ++ []) g T) (raise_same d (length G) 0 (omega arith)) (raise_typed [] G [] refl d))
 
 -- ---- typing
-get_inst : (es : List TypeEntry) (G : List Ty) (n : ℕ) (T : Ty) → slice_get G n ≡ Some T → slice_get (map (inst_ty es) G) n ≡ Some (inst_ty es T)
+pub get_inst : (es : List TypeEntry) (G : List Ty) (n : ℕ) (T : Ty) → slice_get G n ≡ Some T → slice_get (map (inst_ty es) G) n ≡ Some (inst_ty es T)
 get_inst es [] n T e = cc
 get_inst es (S ∷ G) zero T e = let q : S ≡ T = cc in ap (λ U. Some (inst_ty es U)) q
 get_inst es (S ∷ G) (suc n) T e = get_inst es G n T e
@@ -85,7 +85,7 @@ inst_typed es fs k (TApp d e) = TApp (inst_typed es fs k d) (inst_typed es fs k 
 
 -- ---- raising and replacement go with an instance
 module _ (es : List TypeEntry) (fs : List TermEntry) (kept : IsKept es fs) where
-  raise_choice : (n k i : ℕ) (b : Bool) → inst_tm es fs (cond b (Bound i) (Bound (i + n))) ≡ cond b (Bound i) (Bound (i + n))
+  pub raise_choice : (n k i : ℕ) (b : Bool) → inst_tm es fs (cond b (Bound i) (Bound (i + n))) ≡ cond b (Bound i) (Bound (i + n))
   raise_choice n k i true = refl
   raise_choice n k i false = refl
 
@@ -97,7 +97,7 @@ module _ (es : List TypeEntry) (fs : List TermEntry) (kept : IsKept es fs) where
   inst_raise n k (Abs x T b) = ap (Abs x (inst_ty es T)) (inst_raise n (k + 1) b)
   inst_raise n k (App f a) = λ i. App (inst_raise n k f i) (inst_raise n k a i)
 
-  put_choice : (a : Tm) (k i : ℕ) (b c : Bool) → inst_tm es fs (cond b (raise k 0 a) (cond c (Bound (i - 1)) (Bound i))) ≡ cond b (raise k 0 (inst_tm es fs a)) (cond c (Bound (i - 1)) (Bound i))
+  pub put_choice : (a : Tm) (k i : ℕ) (b c : Bool) → inst_tm es fs (cond b (raise k 0 a) (cond c (Bound (i - 1)) (Bound i))) ≡ cond b (raise k 0 (inst_tm es fs a)) (cond c (Bound (i - 1)) (Bound i))
   put_choice a k i true c = inst_raise k 0 a
   put_choice a k i false true = refl
   put_choice a k i false false = refl

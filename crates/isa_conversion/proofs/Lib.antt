@@ -19,3 +19,6 @@ pub mod Heads
 pub mod Loose
 pub mod RenamedNormal
 pub mod Abstracting
+pub mod Valuations
+pub mod Size
+pub mod Pruning

@@ -17,14 +17,14 @@ use Rattle.isa_conversion.proofs.Erasing.{raised}
 use Rattle.isa_conversion.proofs.Renames.{rename, raise_is}
 use Rattle.isa_conversion.proofs.Opening.{IsRenaming, rename_conv}
 
-one_more : (n : ℕ) → suc n ≡ n + 1
+pub one_more : (n : ℕ) → suc n ≡ n + 1
 one_more n = omega arith
 
-or_false : (a b : Bool) → (a || b) ≡ false → (a ≡ false) × (b ≡ false)
+pub or_false : (a b : Bool) → (a || b) ≡ false → (a ≡ false) × (b ≡ false)
 or_false true b e = cc
 or_false false b e = (refl, e)
 
-neither : (a b : Bool) → a ≡ false → b ≡ false → (a || b) ≡ false
+pub neither : (a b : Bool) → a ≡ false → b ≡ false → (a || b) ≡ false
 neither true b h k = cc
 neither false b h k = k
 
@@ -36,7 +36,7 @@ loose_bare k (Bound n) = refl
 loose_bare k (Abs x T b) = loose_bare (k + 1) b
 loose_bare k (App f a) = λ i. loose_bare k f i || loose_bare k a i
 
-raised_bound : (k i : ℕ) (b : Bool) → nat_lt i k ≡ b → loose k (cond b (Bound i) (Bound (i + 1))) ≡ false
+pub raised_bound : (k i : ℕ) (b : Bool) → nat_lt i k ≡ b → loose k (cond b (Bound i) (Bound (i + 1))) ≡ false
 raised_bound k i true h = grind (arith, nat_tests)
 raised_bound k i false h = grind (arith, nat_tests)
 
@@ -64,7 +64,7 @@ beyond_misses (TAbs d) k h = beyond_misses d (k + 1) (omega arith)
 beyond_misses (TApp {f} {a} d e) k h = neither (loose k f) (loose k a) (beyond_misses d k h) (beyond_misses e k h)
 
 -- raising keeps conversion
-raised_renaming : (P D Q : List Ty) → IsRenaming (raised (length D) (length P)) (P ++ Q) (P ++ (D ++ Q))
+pub raised_renaming : (P D Q : List Ty) → IsRenaming (raised (length D) (length P)) (P ++ Q) (P ++ (D ++ Q))
 raised_renaming P D Q n T e = choice (nat_lt n (length P)) refl
   where
     choice : (b : Bool) → nat_lt n (length P) ≡ b → slice_get (P ++ (D ++ Q)) (cond b n (n + length D)) ≡ Some T
@@ -94,7 +94,7 @@ around (S ∷ G) (suc k) h =
 
 -- the normal form of a term has no variable that the term has not
 module _ (P : List Ty) (S : Ty) (Q : List Ty) where
-  norm_misses_at : {G : List Ty} {t : Tm} {T : Ty} → G ≡ P ++ S ∷ Q → Typed G t T → loose (length P) t ≡ false → loose (length P) (norm t) ≡ false
+  pub norm_misses_at : {G : List Ty} {t : Tm} {T : Ty} → G ≡ P ++ S ∷ Q → Typed G t T → loose (length P) t ≡ false → loose (length P) (norm t) ≡ false
   norm_misses_at {G} {t} {T} e d l =
       let c = Bound 0 in
       let v = put c (length P) t in
@@ -126,7 +126,7 @@ conv_misses {G} {T} {t} {u} c n k l =
     sym (loose_bare k u) ∙ ap (loose k) (sym s) ∙ loose_bare k (norm t) ∙ norm_misses (left_typed c) k l
 
 -- ---- a term without loose variables has its type under no binders
-closed_bound : (P Q : List Ty) (n : ℕ) (T : Ty) (b : Bool) → nat_lt n (length P) ≡ b → ((k : ℕ) → length P ≤ k → nat_eq n k ≡ false) → slice_get (P ++ Q) n ≡ Some T → Typed P (Bound n) T
+pub closed_bound : (P Q : List Ty) (n : ℕ) (T : Ty) (b : Bool) → nat_lt n (length P) ≡ b → ((k : ℕ) → length P ≤ k → nat_eq n k ≡ false) → slice_get (P ++ Q) n ≡ Some T → Typed P (Bound n) T
 closed_bound P Q n T true h m e = let lt : n < length P = grind (arith, nat_tests) in TBound (front P Q n lt ∙ e)
   where
     front : (P Q : List Ty) (n : ℕ) → n < length P → slice_get P n ≡ slice_get (P ++ Q) n

@@ -12,7 +12,7 @@ use Rattle.isa_conversion.proofs.Typed.{raise_typed}
 use Rattle.isa_conversion.proofs.Conv.{right_typed, norm_conv}
 
 -- ---- the innermost variable in its own place
-back_below : (k i : ℕ) (b c : Bool) → nat_eq i k ≡ b → nat_lt k i ≡ c → i < k + 1 → cond b (raise k 0 (Bound 0)) (cond c (Bound (i - 1)) (Bound i)) ≡ Bound i
+pub back_below : (k i : ℕ) (b c : Bool) → nat_eq i k ≡ b → nat_lt k i ≡ c → i < k + 1 → cond b (raise k 0 (Bound 0)) (cond c (Bound (i - 1)) (Bound i)) ≡ Bound i
 back_below k i true c h l lt =
     let e : i ≡ k = grind (arith, nat_tests) in
     let z : nat_lt 0 0 ≡ false = grind (arith, nat_tests) in
@@ -21,14 +21,14 @@ back_below k i true c h l lt =
 back_below k i false true h l lt = let n : i ≢ k = grind (arith, nat_tests) in let m : k < i = grind (arith, nat_tests) in absurd (omega arith)
 back_below k i false false h l lt = refl
 
-back_above : (k i : ℕ) → k + 1 ≤ i → put (Bound 0) k (Bound (i + 1)) ≡ Bound i
+pub back_above : (k i : ℕ) → k + 1 ≤ i → put (Bound 0) k (Bound (i + 1)) ≡ Bound i
 back_above k i le =
     let e : nat_eq (i + 1) k ≡ false = grind (arith, nat_tests) in
     let l : nat_lt k (i + 1) ≡ true = grind (arith, nat_tests) in
     let m : i + 1 - 1 ≡ i = omega arith in
     ap (λ v. cond v (raise k 0 (Bound 0)) (cond (nat_lt k (i + 1)) (Bound (i + 1 - 1)) (Bound (i + 1)))) e ∙ ap (λ v. cond v (Bound (i + 1 - 1)) (Bound (i + 1))) l ∙ ap Bound m
 
-back_bound : (k i : ℕ) (b : Bool) → nat_lt i (k + 1) ≡ b → put (Bound 0) k (cond b (Bound i) (Bound (i + 1))) ≡ Bound i
+pub back_bound : (k i : ℕ) (b : Bool) → nat_lt i (k + 1) ≡ b → put (Bound 0) k (cond b (Bound i) (Bound (i + 1))) ≡ Bound i
 back_bound k i true h = let lt : i < k + 1 = grind (arith, nat_tests) in back_below k i (nat_eq i k) (nat_lt k i) refl refl lt
 back_bound k i false h = let le : k + 1 ≤ i = grind (arith, nat_tests) in back_above k i le
 

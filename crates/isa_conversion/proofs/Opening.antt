@@ -24,7 +24,7 @@ use Rattle.isa_conversion.proofs.Renames.{SameNumbers, rename, rename_same, rena
 abbrev pub IsRenaming : (ℕ → ℕ) → List Ty → List Ty → Type 0
 IsRenaming r G K = (n : ℕ) (T : Ty) → slice_get G n ≡ Some T → slice_get K (r n) ≡ Some T
 
-up_renaming : (r : ℕ → ℕ) (G K : List Ty) (S : Ty) → IsRenaming r G K → IsRenaming (up r) (S ∷ G) (S ∷ K)
+pub up_renaming : (r : ℕ → ℕ) (G K : List Ty) (S : Ty) → IsRenaming r G K → IsRenaming (up r) (S ∷ G) (S ∷ K)
 up_renaming r G K S h zero T e = e
 up_renaming r G K S h (suc n) T e = h n T e
 
@@ -47,7 +47,7 @@ rename_conv r K (CBeta {G} {x} {S} {T} {b} {a} d e) h =
 rename_conv r K (CEta {G} {x} {S} {T} {f} d) h =
     subst (λ u. Conv K (function_of S T) (Abs x S (App u (Bound 0))) (rename r f)) (sym (rename_next r f)) (CEta (rename_typed r K d h))
 
-next_renaming : (S : Ty) (G : List Ty) → IsRenaming next G (S ∷ G)
+pub next_renaming : (S : Ty) (G : List Ty) → IsRenaming next G (S ∷ G)
 next_renaming S G n T e = e
 
 -- one more binder
@@ -94,7 +94,7 @@ over n k (App f a) = App (over n k f) (over n k a)
 abbrev pub over_number : ℕ → ℕ → ℕ → ℕ
 over_number n k i = cond (nat_lt i k) i (cond (nat_eq i (n + k)) k (i + 1))
 
-over_up_by : (n k i : ℕ) (b c d e : Bool) → nat_lt i k ≡ b → nat_lt (suc i) (k + 1) ≡ c → nat_eq i (n + k) ≡ d → nat_eq (suc i) (n + (k + 1)) ≡ e → suc (cond b i (cond d k (i + 1))) ≡ cond c (suc i) (cond e (k + 1) (suc i + 1))
+pub over_up_by : (n k i : ℕ) (b c d e : Bool) → nat_lt i k ≡ b → nat_lt (suc i) (k + 1) ≡ c → nat_eq i (n + k) ≡ d → nat_eq (suc i) (n + (k + 1)) ≡ e → suc (cond b i (cond d k (i + 1))) ≡ cond c (suc i) (cond e (k + 1) (suc i + 1))
 over_up_by n k i true true d e h l m o = refl
 over_up_by n k i false false true true h l m o = omega arith
 over_up_by n k i false false false false h l m o = omega arith
@@ -103,11 +103,11 @@ over_up_by n k i false true d e h l m o = let ge : k ≤ i = grind (arith, nat_t
 over_up_by n k i false false true false h l m o = let q : i ≡ n + k = grind (arith, nat_tests) in let r : suc i ≢ n + (k + 1) = grind (arith, nat_tests) in absurd (omega arith)
 over_up_by n k i false false false true h l m o = let q : i ≢ n + k = grind (arith, nat_tests) in let r : suc i ≡ n + (k + 1) = grind (arith, nat_tests) in absurd (omega arith)
 
-over_up : (n k : ℕ) → SameNumbers (up (over_number n k)) (over_number n (k + 1))
+pub over_up : (n k : ℕ) → SameNumbers (up (over_number n k)) (over_number n (k + 1))
 over_up n k zero = let t : nat_lt 0 (k + 1) ≡ true = grind (arith, nat_tests) in sym (ap (λ b. cond b 0 (cond (nat_eq 0 (n + (k + 1))) (k + 1) (0 + 1))) t)
 over_up n k (suc i) = over_up_by n k i (nat_lt i k) (nat_lt (suc i) (k + 1)) (nat_eq i (n + k)) (nat_eq (suc i) (n + (k + 1))) refl refl refl refl
 
-over_choice : (b c : Bool) (i j k : ℕ) → cond b (Bound i) (cond c (Bound j) (Bound k)) ≡ Bound (cond b i (cond c j k))
+pub over_choice : (b c : Bool) (i j k : ℕ) → cond b (Bound i) (cond c (Bound j) (Bound k)) ≡ Bound (cond b i (cond c j k))
 over_choice true c i j k = refl
 over_choice false true i j k = refl
 over_choice false false i j k = refl
@@ -120,7 +120,7 @@ over_is n k (Bound i) = over_choice (nat_lt i k) (nat_eq i (n + k)) i k (i + 1)
 over_is n k (Abs x T b) = ap (Abs x T) (over_is n (k + 1) b ∙ sym (rename_same _ _ (over_up n k) b))
 over_is n k (App f a) = λ i. App (over_is n k f i) (over_is n k a i)
 
-over_renaming : (G : List Ty) (n : ℕ) (S : Ty) → slice_get G n ≡ Some S → IsRenaming (over_number n 0) G (S ∷ G)
+pub over_renaming : (G : List Ty) (n : ℕ) (S : Ty) → slice_get G n ≡ Some S → IsRenaming (over_number n 0) G (S ∷ G)
 over_renaming G n S g i T e =
     let z : nat_lt i 0 ≡ false = grind (arith, nat_tests) in
     ap (λ b. slice_get (S ∷ G) (cond b i (cond (nat_eq i (n + 0)) 0 (i + 1)))) z ∙ choice (nat_eq i (n + 0)) refl
@@ -137,7 +137,7 @@ over_conv {G} n {S} {T} {t} {u} g c =
     subst (λ v. Conv (S ∷ G) T v (over n 0 u)) (sym (over_is n 0 t)) (subst (λ v. Conv (S ∷ G) T (rename (over_number n 0) t) v) (sym (over_is n 0 u)) (rename_conv (over_number n 0) (S ∷ G) c (over_renaming G n S g)))
 
 -- the variable in the new binder's place gives the term again
-over_back_bound : (n k i : ℕ) (b c : Bool) → nat_lt i k ≡ b → nat_eq i (n + k) ≡ c → put (Bound n) k (cond b (Bound i) (cond c (Bound k) (Bound (i + 1)))) ≡ Bound i
+pub over_back_bound : (n k i : ℕ) (b c : Bool) → nat_lt i k ≡ b → nat_eq i (n + k) ≡ c → put (Bound n) k (cond b (Bound i) (cond c (Bound k) (Bound (i + 1)))) ≡ Bound i
 over_back_bound n k i true c h l =
     let e : nat_eq i k ≡ false = grind (arith, nat_tests) in
     let m : nat_lt k i ≡ false = grind (arith, nat_tests) in
@@ -168,12 +168,12 @@ over_applied {G} x n {S} {T} {t} g d =
     subst (λ u. Conv G T (App (Abs x S (over n 0 t)) (Bound n)) u) (over_back n 0 t) c
 
 -- where the variable is not, the term is raised
-over_missing_bound : (n k i : ℕ) (b c : Bool) → nat_eq i (n + k) ≡ c → c ≡ false → cond b (Bound i) (cond c (Bound k) (Bound (i + 1))) ≡ cond b (Bound i) (Bound (i + 1))
+pub over_missing_bound : (n k i : ℕ) (b c : Bool) → nat_eq i (n + k) ≡ c → c ≡ false → cond b (Bound i) (cond c (Bound k) (Bound (i + 1))) ≡ cond b (Bound i) (Bound (i + 1))
 over_missing_bound n k i true c h e = refl
 over_missing_bound n k i false true h e = cc
 over_missing_bound n k i false false h e = refl
 
-or_false : (a b : Bool) → (a || b) ≡ false → (a ≡ false) × (b ≡ false)
+pub or_false : (a b : Bool) → (a || b) ≡ false → (a ≡ false) × (b ≡ false)
 or_false true b e = cc
 or_false false b e = (refl, e)
 
@@ -185,7 +185,7 @@ over_missing n k (Bound i) l = over_missing_bound n k i (nat_lt i k) (nat_eq i (
 over_missing n k (Abs x T b) l = let e : n + (k + 1) ≡ n + k + 1 = omega arith in ap (Abs x T) (over_missing n (k + 1) b (ap (λ j. loose j b) e ∙ l))
 over_missing n k (App f a) l = let o = or_false (loose (n + k) f) (loose (n + k) a) l in λ i. App (over_missing n k f o.0 i) (over_missing n k a o.1 i)
 
-over_here : (n : ℕ) → over n 0 (Bound n) ≡ Bound 0
+pub over_here : (n : ℕ) → over n 0 (Bound n) ≡ Bound 0
 over_here n =
     let z : nat_lt n 0 ≡ false = grind (arith, nat_tests) in
     let e : nat_eq n (n + 0) ≡ true = grind (arith, nat_tests) in

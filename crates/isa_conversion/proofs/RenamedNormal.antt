@@ -24,17 +24,17 @@ erase_rename r (Bound n) = refl
 erase_rename r (Abs x T b) = ap Lam (erase_rename (up r) b)
 erase_rename r (App f a) = λ i. Ap (erase_rename r f i) (erase_rename r a i)
 
-loose_up : (r : ℕ → ℕ) (t : Tm) → loose 0 (rename (up r) t) ≡ loose 0 t
+pub loose_up : (r : ℕ → ℕ) (t : Tm) → loose 0 (rename (up r) t) ≡ loose 0 t
 loose_up r t = loose_has 0 (rename (up r) t) ∙ ap (has 0) (erase_rename (up r) t) ∙ has-up r 0 (erase t) ∙ sym (loose_has 0 t)
 
-redex_up_bound : (r : ℕ → ℕ) (f : Tm) (i : ℕ) → redex_at (rename (up r) f) (Bound (up r i)) ≡ redex_at f (Bound i)
+pub redex_up_bound : (r : ℕ → ℕ) (f : Tm) (i : ℕ) → redex_at (rename (up r) f) (Bound (up r i)) ≡ redex_at f (Bound i)
 redex_up_bound r f zero = ap (λ v. nat_eq 0 0 && not v) (loose_up r f)
 redex_up_bound r f (suc i) =
     let e : nat_eq (suc (r i)) 0 ≡ false = grind (arith, nat_tests) in
     let d : nat_eq (suc i) 0 ≡ false = grind (arith, nat_tests) in
     ap (λ v. v && not (loose 0 (rename (up r) f))) e ∙ sym (ap (λ v. v && not (loose 0 f)) d)
 
-redex_up : (r : ℕ → ℕ) (b : Tm) → redex (rename (up r) b) ≡ redex b
+pub redex_up : (r : ℕ → ℕ) (b : Tm) → redex (rename (up r) b) ≡ redex b
 redex_up r (App f (Bound i)) = redex_up_bound r f i
 redex_up r (App f (Const x T)) = refl
 redex_up r (App f (Free x T)) = refl
@@ -73,7 +73,7 @@ rename_norm r K {G} {t} {T} d h =
     conv_norm c ∙ ap bare (norm_same (rename r (norm t)) (rename_normal r (norm t) (norm_normal d)))
 
 -- ---- the names of binders
-bare_head : (t : Tm) → IsHead t → IsHead (bare t)
+pub bare_head : (t : Tm) → IsHead t → IsHead (bare t)
 bare_head (Const x T) h = tt
 bare_head (Free x T) h = tt
 bare_head (Unknown x i T) h = tt
@@ -81,7 +81,7 @@ bare_head (Bound n) h = tt
 bare_head (Abs x T b) h = absurd h
 bare_head (App f a) h = tt
 
-loose_bare : (k : ℕ) (t : Tm) → loose k (bare t) ≡ loose k t
+pub loose_bare : (k : ℕ) (t : Tm) → loose k (bare t) ≡ loose k t
 loose_bare k (Const x T) = refl
 loose_bare k (Free x T) = refl
 loose_bare k (Unknown x i T) = refl
@@ -89,7 +89,7 @@ loose_bare k (Bound n) = refl
 loose_bare k (Abs x T b) = loose_bare (k + 1) b
 loose_bare k (App f a) = λ i. loose_bare k f i || loose_bare k a i
 
-redex_bare : (b : Tm) → redex (bare b) ≡ redex b
+pub redex_bare : (b : Tm) → redex (bare b) ≡ redex b
 redex_bare (App f (Bound i)) = ap (λ v. nat_eq i 0 && not v) (loose_bare 0 f)
 redex_bare (App f (Const x T)) = refl
 redex_bare (App f (Free x T)) = refl

@@ -39,7 +39,7 @@ SameNumbers r q = (n : ℕ) → r n ≡ q n
 abbrev pub SameTerms : (ℕ → Tm) → (ℕ → Tm) → Type 0
 SameTerms s t = (n : ℕ) → s n ≡ t n
 
-up_same : {r q : ℕ → ℕ} → SameNumbers r q → SameNumbers (up r) (up q)
+pub up_same : {r q : ℕ → ℕ} → SameNumbers r q → SameNumbers (up r) (up q)
 up_same h zero = refl
 up_same h (suc n) = ap (λ m. suc m) (h n)
 
@@ -51,7 +51,7 @@ rename_same r q h (Bound n) = ap Bound (h n)
 rename_same r q h (Abs x T b) = ap (Abs x T) (rename_same (up r) (up q) (up_same h) b)
 rename_same r q h (App f a) = λ i. App (rename_same r q h f i) (rename_same r q h a i)
 
-lift_same : {s t : ℕ → Tm} → SameTerms s t → SameTerms (lift s) (lift t)
+pub lift_same : {s t : ℕ → Tm} → SameTerms s t → SameTerms (lift s) (lift t)
 lift_same h zero = refl
 lift_same h (suc n) = ap (rename next) (h n)
 
@@ -63,7 +63,7 @@ fill_same s q h (Bound n) = h n
 fill_same s q h (Abs x T b) = ap (Abs x T) (fill_same (lift s) (lift q) (lift_same h) b)
 fill_same s q h (App f a) = λ i. App (fill_same s q h f i) (fill_same s q h a i)
 
-up_up : (r q : ℕ → ℕ) → SameNumbers (λ n. up r (up q n)) (up (λ n. r (q n)))
+pub up_up : (r q : ℕ → ℕ) → SameNumbers (λ n. up r (up q n)) (up (λ n. r (q n)))
 up_up r q zero = refl
 up_up r q (suc n) = refl
 
@@ -75,7 +75,7 @@ rename-rename r q (Bound n) = refl
 rename-rename r q (Abs x T b) = ap (Abs x T) (rename-rename (up r) (up q) b ∙ rename_same _ _ (up_up r q) b)
 rename-rename r q (App f a) = λ i. App (rename-rename r q f i) (rename-rename r q a i)
 
-lift_up : (s : ℕ → Tm) (r : ℕ → ℕ) → SameTerms (λ n. lift s (up r n)) (lift (λ n. s (r n)))
+pub lift_up : (s : ℕ → Tm) (r : ℕ → ℕ) → SameTerms (λ n. lift s (up r n)) (lift (λ n. s (r n)))
 lift_up s r zero = refl
 lift_up s r (suc n) = refl
 
@@ -90,7 +90,7 @@ fill-rename s r (App f a) = λ i. App (fill-rename s r f i) (fill-rename s r a i
 pub rename-up-next : (r : ℕ → ℕ) (t : Tm) → rename (up r) (rename next t) ≡ rename next (rename r t)
 rename-up-next r t = rename-rename (up r) next t ∙ sym (rename-rename next r t)
 
-up_lift : (r : ℕ → ℕ) (s : ℕ → Tm) → SameTerms (λ n. rename (up r) (lift s n)) (lift (λ n. rename r (s n)))
+pub up_lift : (r : ℕ → ℕ) (s : ℕ → Tm) → SameTerms (λ n. rename (up r) (lift s n)) (lift (λ n. rename r (s n)))
 up_lift r s zero = refl
 up_lift r s (suc n) = rename-up-next r (s n)
 
@@ -105,7 +105,7 @@ rename-fill r s (App f a) = λ i. App (rename-fill r s f i) (rename-fill r s a i
 pub fill-lift-next : (s : ℕ → Tm) (t : Tm) → fill (lift s) (rename next t) ≡ rename next (fill s t)
 fill-lift-next s t = fill-rename (lift s) next t ∙ sym (rename-fill next s t)
 
-lift_lift : (s q : ℕ → Tm) → SameTerms (λ n. fill (lift s) (lift q n)) (lift (λ n. fill s (q n)))
+pub lift_lift : (s q : ℕ → Tm) → SameTerms (λ n. fill (lift s) (lift q n)) (lift (λ n. fill s (q n)))
 lift_lift s q zero = refl
 lift_lift s q (suc n) = fill-lift-next s (q n)
 
@@ -117,7 +117,7 @@ fill-fill s q (Bound n) = refl
 fill-fill s q (Abs x T b) = ap (Abs x T) (fill-fill (lift s) (lift q) b ∙ fill_same _ _ (lift_lift s q) b)
 fill-fill s q (App f a) = λ i. App (fill-fill s q f i) (fill-fill s q a i)
 
-lift_var : SameTerms (lift Bound) Bound
+pub lift_var : SameTerms (lift Bound) Bound
 lift_var zero = refl
 lift_var (suc n) = refl
 
@@ -133,14 +133,14 @@ fill-bound (App f a) = λ i. App (fill-bound f i) (fill-bound a i)
 pub fill-first-next : (a t : Tm) → fill (first a) (rename next t) ≡ t
 fill-first-next a t = fill-rename (first a) next t ∙ fill-bound t
 
-rename_first : (r : ℕ → ℕ) (a : Tm) → SameTerms (λ n. rename r (first a n)) (λ n. first (rename r a) (up r n))
+pub rename_first : (r : ℕ → ℕ) (a : Tm) → SameTerms (λ n. rename r (first a n)) (λ n. first (rename r a) (up r n))
 rename_first r a zero = refl
 rename_first r a (suc n) = refl
 
 pub rename-fill-first : (r : ℕ → ℕ) (a b : Tm) → rename r (fill (first a) b) ≡ fill (first (rename r a)) (rename (up r) b)
 rename-fill-first r a b = rename-fill r (first a) b ∙ fill_same _ _ (rename_first r a) b ∙ sym (fill-rename (first (rename r a)) (up r) b)
 
-fill_first : (s : ℕ → Tm) (a : Tm) → SameTerms (λ n. fill s (first a n)) (λ n. fill (first (fill s a)) (lift s n))
+pub fill_first : (s : ℕ → Tm) (a : Tm) → SameTerms (λ n. fill s (first a n)) (λ n. fill (first (fill s a)) (lift s n))
 fill_first s a zero = refl
 fill_first s a (suc n) = sym (fill-first-next (fill s a) (s n))
 
@@ -148,7 +148,7 @@ pub fill-fill-first : (s : ℕ → Tm) (a b : Tm) → fill s (fill (first a) b) 
 fill-fill-first s a b = fill-fill s (first a) b ∙ fill_same _ _ (fill_first s a) b ∙ sym (fill-fill (first (fill s a)) (lift s) b)
 
 -- ---- raising and replacement in these terms
-choice : (b : Bool) (i j : ℕ) → cond b (Bound i) (Bound j) ≡ Bound (cond b i j)
+pub choice : (b : Bool) (i j : ℕ) → cond b (Bound i) (Bound j) ≡ Bound (cond b i j)
 choice true i j = refl
 choice false i j = refl
 
@@ -164,17 +164,17 @@ raise_is n k (App f a) = λ i. App (raise_is n k f i) (raise_is n k a i)
 abbrev pub placed : Tm → ℕ → ℕ → Tm
 placed a k i = cond (nat_eq i k) (rename (raised k 0) a) (cond (nat_lt k i) (Bound (i - 1)) (Bound i))
 
-raised_more : (k : ℕ) (a : Tm) → rename next (rename (raised k 0) a) ≡ rename (raised (k + 1) 0) a
+pub raised_more : (k : ℕ) (a : Tm) → rename next (rename (raised k 0) a) ≡ rename (raised (k + 1) 0) a
 raised_more k a = rename-rename next (raised k 0) a ∙ rename_same _ _ (raised_again k) a
 
-lift_placed_by : (a : Tm) (k i : ℕ) (b c d : Bool) → nat_eq i k ≡ b → nat_lt k i ≡ c → nat_lt (k + 1) (suc i) ≡ d → rename next (cond b (rename (raised k 0) a) (cond c (Bound (i - 1)) (Bound i))) ≡ cond b (rename (raised (k + 1) 0) a) (cond d (Bound (suc i - 1)) (Bound (suc i)))
+pub lift_placed_by : (a : Tm) (k i : ℕ) (b c d : Bool) → nat_eq i k ≡ b → nat_lt k i ≡ c → nat_lt (k + 1) (suc i) ≡ d → rename next (cond b (rename (raised k 0) a) (cond c (Bound (i - 1)) (Bound i))) ≡ cond b (rename (raised (k + 1) 0) a) (cond d (Bound (suc i - 1)) (Bound (suc i)))
 lift_placed_by a k i true c d h l m = raised_more k a
 lift_placed_by a k i false true true h l m = let lt : k < i = grind (arith, nat_tests) in let e : suc (i - 1) ≡ suc i - 1 = omega arith in ap Bound e
 lift_placed_by a k i false false false h l m = refl
 lift_placed_by a k i false true false h l m = let lt : k < i = grind (arith, nat_tests) in let ge : suc i ≤ k + 1 = grind (arith, nat_tests) in absurd (omega arith)
 lift_placed_by a k i false false true h l m = let ge : i ≤ k = grind (arith, nat_tests) in let lt : k + 1 < suc i = grind (arith, nat_tests) in absurd (omega arith)
 
-lift_placed : (a : Tm) (k : ℕ) → SameTerms (lift (placed a k)) (placed a (k + 1))
+pub lift_placed : (a : Tm) (k : ℕ) → SameTerms (lift (placed a k)) (placed a (k + 1))
 lift_placed a k zero =
     let e : nat_eq 0 (k + 1) ≡ false = grind (arith, nat_tests) in
     let l : nat_lt (k + 1) 0 ≡ false = grind (arith, nat_tests) in
@@ -203,7 +203,7 @@ rename_none r h (Abs x T b) = ap (Abs x T) (rename_none (up r) (up_none r h) b)
     up_none r h (suc n) = ap (λ m. suc m) (h n)
 rename_none r h (App f a) = λ i. App (rename_none r h f i) (rename_none r h a i)
 
-placed_first : (a : Tm) → SameTerms (placed a 0) (first a)
+pub placed_first : (a : Tm) → SameTerms (placed a 0) (first a)
 placed_first a zero = rename_none (raised 0 0) (raised_none 0) a
 placed_first a (suc n) =
     let e : nat_eq (suc n) 0 ≡ false = grind (arith, nat_tests) in

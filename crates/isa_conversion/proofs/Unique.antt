@@ -21,11 +21,11 @@ domain_same e = cc (e)
 pub range_same : {A B C D : Ty} → function_of A B ≡ function_of C D → B ≡ D
 range_same e = cc (e)
 
-atom_same : {c d : Tm} → Atom c ≡ Atom d → c ≡ d
+pub atom_same : {c d : Tm} → Atom c ≡ Atom d → c ≡ d
 atom_same e = cc
 
 -- ---- what erases to the same is made the same
-atom_case : {G : List Ty} {u : Tm} {U : Ty} → Typed G u U → (c : Tm) → Atom c ≡ erase u → c ≡ u
+pub atom_case : {G : List Ty} {u : Tm} {U : Ty} → Typed G u U → (c : Tm) → Atom c ≡ erase u → c ≡ u
 atom_case TConst c s = atom_same s
 atom_case TFree c s = atom_same s
 atom_case TUnknown c s = atom_same s
@@ -33,7 +33,7 @@ atom_case (TBound h) c s = absurd (cc)
 atom_case (TAbs d) c s = absurd (cc)
 atom_case (TApp d e) c s = absurd (cc)
 
-bound_case : (u : Tm) (n : ℕ) → Var n ≡ erase u → Bound n ≡ u
+pub bound_case : (u : Tm) (n : ℕ) → Var n ≡ erase u → Bound n ≡ u
 bound_case (Bound m) n s = cc
 bound_case (Const x T) n s = absurd (cc)
 bound_case (Free x T) n s = absurd (cc)
@@ -41,14 +41,14 @@ bound_case (Unknown x i T) n s = absurd (cc)
 bound_case (Abs x T b) n s = absurd (cc)
 bound_case (App f a) n s = absurd (cc)
 
-record IsAbs (b : Erased) (u : Tm) : Type 0 where
-  name : List ℕ
-  typ : Ty
-  body : Tm
-  made : u ≡ Abs name typ body
-  same : b ≡ erase body
+pub record IsAbs (b : Erased) (u : Tm) : Type 0 where
+  pub name : List ℕ
+  pub typ : Ty
+  pub body : Tm
+  pub made : u ≡ Abs name typ body
+  pub same : b ≡ erase body
 
-abs_case : (u : Tm) (b : Erased) → Lam b ≡ erase u → IsAbs b u
+pub abs_case : (u : Tm) (b : Erased) → Lam b ≡ erase u → IsAbs b u
 abs_case (Abs x T c) b s = record { name = x; typ = T; body = c; made = refl; same = lam_same s }
 abs_case (Const x T) b s = absurd (cc)
 abs_case (Free x T) b s = absurd (cc)
@@ -56,14 +56,14 @@ abs_case (Unknown x i T) b s = absurd (cc)
 abs_case (Bound i) b s = absurd (cc)
 abs_case (App f a) b s = absurd (cc)
 
-record IsApp (f a : Erased) (u : Tm) : Type 0 where
-  fun : Tm
-  arg : Tm
-  made : u ≡ App fun arg
-  same_fun : f ≡ erase fun
-  same_arg : a ≡ erase arg
+pub record IsApp (f a : Erased) (u : Tm) : Type 0 where
+  pub fun : Tm
+  pub arg : Tm
+  pub made : u ≡ App fun arg
+  pub same_fun : f ≡ erase fun
+  pub same_arg : a ≡ erase arg
 
-app_case : (u : Tm) (f a : Erased) → Ap f a ≡ erase u → IsApp f a u
+pub app_case : (u : Tm) (f a : Erased) → Ap f a ≡ erase u → IsApp f a u
 app_case (App g b) f a s = record { fun = g; arg = b; made = refl; same_fun = fun_same s; same_arg = arg_same s }
 app_case (Const x T) f a s = absurd (cc)
 app_case (Free x T) f a s = absurd (cc)
@@ -77,7 +77,7 @@ app_typed (TApp {S} d e) = (S, d, e)
 pub abs_typed : {G : List Ty} {x : List ℕ} {S : Ty} {b : Tm} {U : Ty} → Typed G (Abs x S b) U → (T : Ty) × (U ≡ function_of S T) × Typed (S ∷ G) b T
 abs_typed (TAbs {T} d) = (T, refl, d)
 
-const_typed : {G : List Ty} {x : List ℕ} {T : Ty} (u : Tm) {U : Ty} → Typed G u U → Const x T ≡ u → T ≡ U
+pub const_typed : {G : List Ty} {x : List ℕ} {T : Ty} (u : Tm) {U : Ty} → Typed G u U → Const x T ≡ u → T ≡ U
 const_typed u TConst s = cc
 const_typed u TFree s = cc
 const_typed u TUnknown s = cc
@@ -85,7 +85,7 @@ const_typed u (TBound h) s = absurd (cc)
 const_typed u (TAbs d) s = absurd (cc)
 const_typed u (TApp d e) s = absurd (cc)
 
-free_typed : {G : List Ty} {x : List ℕ} {T : Ty} (u : Tm) {U : Ty} → Typed G u U → Free x T ≡ u → T ≡ U
+pub free_typed : {G : List Ty} {x : List ℕ} {T : Ty} (u : Tm) {U : Ty} → Typed G u U → Free x T ≡ u → T ≡ U
 free_typed u TConst s = cc
 free_typed u TFree s = cc
 free_typed u TUnknown s = cc
@@ -93,7 +93,7 @@ free_typed u (TBound h) s = absurd (cc)
 free_typed u (TAbs d) s = absurd (cc)
 free_typed u (TApp d e) s = absurd (cc)
 
-unknown_typed : {G : List Ty} {x : List ℕ} {i : ℕ} {T : Ty} (u : Tm) {U : Ty} → Typed G u U → Unknown x i T ≡ u → T ≡ U
+pub unknown_typed : {G : List Ty} {x : List ℕ} {i : ℕ} {T : Ty} (u : Tm) {U : Ty} → Typed G u U → Unknown x i T ≡ u → T ≡ U
 unknown_typed u TConst s = cc
 unknown_typed u TFree s = cc
 unknown_typed u TUnknown s = cc
@@ -101,7 +101,7 @@ unknown_typed u (TBound h) s = absurd (cc)
 unknown_typed u (TAbs d) s = absurd (cc)
 unknown_typed u (TApp d e) s = absurd (cc)
 
-bound_typed : {G : List Ty} {n : ℕ} {T : Ty} (u : Tm) {U : Ty} → Typed G u U → Bound n ≡ u → slice_get G n ≡ Some T → T ≡ U
+pub bound_typed : {G : List Ty} {n : ℕ} {T : Ty} (u : Tm) {U : Ty} → Typed G u U → Bound n ≡ u → slice_get G n ≡ Some T → T ≡ U
 bound_typed {n} {T} u (TBound {G} {n = m} {T = U} h) s g =
     let q : n ≡ m = cc in
     let o : Some T ≡ Some U = sym g ∙ ap (slice_get G) q ∙ h in

@@ -1,19 +1,18 @@
 -- A conversion of closed terms is a derivation.
-use Rattle.std.proofs.Common.{◌≡◌, ℕ, suc, ◌+◌, ◌<◌, List, [], ◌∷◌, ◌++◌, length, replicate, refl, sym, ap, ◌∙◌, subst, arith, cond, nat_lt, true, false}
+use Rattle.std.proofs.Common.{◌≡◌, ℕ, ◌+◌, ◌<◌, List, [], ◌∷◌, length, replicate, refl, sym, ap, ◌∙◌, subst, arith, cond, nat_lt, true, false}
 use Rattle.std.proofs.lemmas.List.{length-replicate}
 use Rattle.isa_terms.specs.Types.{Ty}
 use Rattle.isa_terms.specs.Terms.{Tm, Const, Free, Unknown, Bound, Abs, App, bare}
-use Rattle.isa_terms.specs.Typing.{function_of, type_at}
-use Rattle.isa_terms.specs.Replace.{raise, put, replace}
-use Rattle.isa_terms.specs.Binding.{close}
+use Rattle.isa_terms.specs.Typing.{function_of}
+use Rattle.isa_terms.specs.Replace.{raise, replace}
 use Rattle.isa_terms.proofs.Bare.{put_bare, raise_bare}
 use Rattle.isa_terms.specs.Norm.{norm}
 use Rattle.isa_terms.specs.Typing.{HasType}
 use Rattle.isa_kernel.specs.Logic.{eq}
 use Rattle.isa_kernel.specs.Derivation.{Tree, Reflexive, Symmetric, Transitive, Combination, Abstraction, Beta, Eta}
 use Rattle.isa_conversion.proofs.Typed.{Typed, TAbs, TApp, type_of_typed, typed_of_type}
-use Rattle.isa_conversion.proofs.Conv.{Conv, CRefl, CSym, CTrans, CApp, CAbs, CBeta, CEta, left_typed, norm_conv}
-use Rattle.isa_kernel.proofs.Fill.{Var, types, fill, fill_put, fill_raise, fill_typed, bare_typed, raise_closed, IsNew, close_fill, longest, longest_of, occurs_longer, new_longer}
+use Rattle.isa_conversion.proofs.Conv.{Conv, CRefl, CSym, CTrans, CApp, CAbs, CBeta, CEta, norm_conv}
+use Rattle.isa_kernel.proofs.Fill.{Var, types, fill, fill_put, fill_raise, fill_typed, bare_typed, raise_closed, close_fill, longest, longest_of, occurs_longer, new_longer}
 
 -- the term with variables for its binders, without names
 abbrev pub shut : List Var → Tm → Tm

@@ -1,16 +1,15 @@
 -- Free variables in the place of the binders round a term.
-use Rattle.std.proofs.Common.{◌≡◌, ◌≢◌, ℕ, zero, suc, ◌+◌, ◌-◌, ◌<◌, ◌≤◌, max, List, [], ◌∷◌, ◌++◌, map, length, replicate, Bool, true, false, cond, ◌||◌, ◌&&◌, nat_eq, nat_lt, Option, Some, None, refl, sym, ap, ◌∙◌, subst, arith, append-nil}
+use Rattle.std.proofs.Common.{◌≡◌, ◌≢◌, ℕ, zero, suc, ◌+◌, ◌-◌, ◌<◌, ◌≤◌, List, [], ◌∷◌, ◌++◌, length, Bool, true, false, cond, ◌||◌, ◌&&◌, nat_eq, nat_lt, Option, Some, None, refl, sym, ap, ◌∙◌, subst, arith}
 use Rattle.std.specs.List.{slice_get}
 use Rattle.std.specs.Cmp.Lexicographic.{bytes_decides}
 use Rattle.std.proofs.lemmas.Bool.Decides.{nat_tests}
 use Rattle.isa_terms.specs.Types.{Ty}
 use Rattle.isa_terms.specs.Terms.{Tm, Const, Free, Unknown, Bound, Abs, App, bare}
 use Rattle.isa_terms.specs.Equal.{name_eq, ty_eq}
-use Rattle.isa_terms.specs.Typing.{function_of}
-use Rattle.isa_terms.specs.Replace.{raise, put, replace}
-use Rattle.isa_terms.specs.Binding.{occurs, close_at, close}
+use Rattle.isa_terms.specs.Replace.{raise, put}
+use Rattle.isa_terms.specs.Binding.{occurs, close_at}
 use Rattle.isa_terms.proofs.Equal.{ty_decides}
-use Rattle.isa_conversion.proofs.Typed.{Typed, TConst, TFree, TUnknown, TBound, TAbs, TApp, get_before}
+use Rattle.isa_conversion.proofs.Typed.{Typed, TConst, TFree, TUnknown, TBound, TAbs, TApp}
 
 abbrev pub Var : Type 0
 Var = List ℕ × Ty

@@ -1,17 +1,17 @@
 -- An instance of a theorem has a derivation.
-use Rattle.std.proofs.Common.{◌≡◌, ◌⊎◌, inl, inr, ℕ, List, [], ◌∷◌, ◌++◌, map, Bool, true, false, cond, not, ◌&&◌, ◌||◌, nat_eq, Option, Some, None, is_some, unwrap_or, refl, sym, ap, ◌∙◌, subst}
+use Rattle.std.proofs.Common.{◌≡◌, inl, inr, ℕ, List, [], ◌∷◌, Bool, true, false, cond, not, ◌&&◌, ◌||◌, nat_eq, Option, Some, None, is_some, unwrap_or, refl, sym, ap, ◌∙◌, subst}
 use Rattle.isa_terms.specs.Types.{Ty}
 use Rattle.isa_terms.specs.Terms.{Tm, Const, Free, Unknown, Bound, Abs, App, bare}
 use Rattle.isa_terms.specs.Equal.{name_eq, ty_eq}
-use Rattle.isa_terms.specs.Typing.{type_at}
-use Rattle.isa_terms.specs.Instance.{find_term, inst_ty, inst_tm, in_ty, in_tm, in_tms}
+use Rattle.isa_terms.specs.Instance.{Instance, instance_of, find_term, inst_ty, inst_tm, in_ty, in_tm, in_tms}
 use Rattle.isa_terms.specs.declared.inst.TypeEntry.{TypeEntry}
 use Rattle.isa_terms.specs.declared.inst.TermEntry.{TermEntry}
 use Rattle.isa_terms.proofs.Bare.{type_at_bare}
 use Rattle.isa_terms.specs.Norm.{norm}
 use Rattle.isa_terms.specs.Typing.{HasType}
 use Rattle.isa_kernel.specs.Logic.{prop, eq}
-use Rattle.isa_kernel.specs.Derivation.{Member, Within, Tree, Instance, EqualElim, IsKept, Derives}
+use Rattle.isa_kernel.specs.Derivation as D
+use Rattle.isa_kernel.specs.Derivation.{Member, Within, Tree, EqualElim, IsKept, Derives}
 use Rattle.isa_kernel.specs.Theorem.{Theorem, IsDerived}
 use Rattle.isa_kernel.specs.Inferences.{has_type, keeps, instantiated}
 use Rattle.isa_conversion.proofs.Functions.{cond_some}
@@ -20,7 +20,7 @@ use Rattle.isa_kernel.specs.Axioms.{propositions}
 use Rattle.isa_kernel.proofs.Members.{bares}
 use Rattle.isa_kernel.proofs.Rules.{tree_more, IsDerivedOf}
 use Rattle.isa_kernel.proofs.Sound.{has_type_is}
-use Rattle.isa_conversion.proofs.Typed.{typed_of_type, type_of_typed}
+use Rattle.isa_conversion.proofs.Typed.{type_of_typed}
 use Rattle.isa_kernel.proofs.Closed.{norm_tree}
 use Rattle.isa_kernel.proofs.Preserved.{derived_typed}
 
@@ -102,14 +102,14 @@ pub instance_derived : (es : List TypeEntry) (fs : List TermEntry) (p : Tm) (B :
 instance_derived es fs p B H k n d =
     let q : Tm = inst_tm es fs p in
     let free : in_tms es (bare_entries fs) d.used ≡ false = in_tms_false es (bare_entries fs) d.used (λ t m. in_Member es fs H t n (d.within t m)) in
-    let tree : Tree (propositions B) d.used (bare q) = subst (λ r. Tree (propositions B) d.used r) (inst_bare es fs p) (Instance es (bare_entries fs) (kept es fs k) free d.tree) in
+    let tree : Tree (propositions B) d.used (bare q) = subst (λ r. Tree (propositions B) d.used r) (inst_bare es fs p) (D.Instance es (bare_entries fs) (kept es fs k) free d.tree) in
     let typed : HasType q prop = sym (type_at_bare [] q) ∙ type_of_typed (derived_typed tree) in
     let same : Tree (propositions B) [] (eq prop (bare q) (bare (norm q))) = tree_more (λ r m. absurd m) (norm_tree q prop typed) in
     record { used = d.used; tree = EqualElim same tree; within = d.within }
 
-pub instantiated_sound : (es : List TypeEntry) (fs : List TermEntry) (b th : Theorem) → instantiated es fs b ≡ Some th → IsDerived b → IsDerived th
-instantiated_sound es fs b th e d =
-    let t = cond_some (keeps es fs && not (in_tms es fs b.hyps)) _ e in
-    let u = and_true (keeps es fs) (not (in_tms es fs b.hyps)) t.0 in
-    let made : record { hyps = b.hyps; prop = norm (inst_tm es fs b.prop); base = b.base } ≡ th = cc (t.1) in
-    subst (λ x. IsDerived x) made (record { derivation = instance_derived es fs b.prop b.base b.hyps u.0 (not_true (in_tms es fs b.hyps) u.1) d.derivation })
+pub instantiated_sound : (s : Instance) (b th : Theorem) → instantiated s b ≡ Some th → IsDerived b → IsDerived th
+instantiated_sound s b th e d =
+    let t = cond_some (keeps s.types s.terms && not (in_tms s.types s.terms b.hyps)) _ e in
+    let u = and_true (keeps s.types s.terms) (not (in_tms s.types s.terms b.hyps)) t.0 in
+    let made : record { hyps = b.hyps; prop = instance_of s b.prop; base = b.base } ≡ th = cc (t.1) in
+    subst (λ x. IsDerived x) made (record { derivation = instance_derived s.types s.terms b.prop b.base b.hyps u.0 (not_true (in_tms s.types s.terms b.hyps) u.1) d.derivation })

@@ -7,3 +7,7 @@ pub mod Closed
 pub mod Preserved
 pub mod Instances
 pub mod Generals
+pub mod TypeInstances
+pub mod Theories
+pub mod Quantifier
+pub mod Bases

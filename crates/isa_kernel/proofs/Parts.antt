@@ -1,12 +1,12 @@
 -- A proposition that has a form is made of its parts.
-use Rattle.std.proofs.Common.{◌≡◌, ℕ, List, [], ◌∷◌, Bool, true, false, cond, Option, Some, None, refl, sym, ap, ◌∙◌, codes}
+use Rattle.std.proofs.Common.{◌≡◌, ℕ, List, true, cond, Some, None, sym, ap, ◌∙◌, codes}
 use Rattle.std.specs.Prelude.{option_and_then}
 use Rattle.std.proofs.lemmas.Bool.Decides.{Decides-eqb}
 use Rattle.std.specs.Cmp.Lexicographic.{bytes_decides}
-use Rattle.isa_terms.specs.Types.{Ty, Tys, TyCon, TyFixed, TyUnknown, NoTys, MoreTys}
+use Rattle.isa_terms.specs.Types.{Ty}
 use Rattle.isa_terms.specs.Terms.{Tm, Const, Free, Unknown, Bound, Abs, App}
 use Rattle.isa_terms.specs.Equal.{name_eq, ty_eq}
-use Rattle.isa_terms.specs.Typing.{function_parts, function_of, two_args}
+use Rattle.isa_terms.specs.Typing.{function_parts, function_of}
 use Rattle.isa_terms.proofs.Equal.{ty_decides}
 use Rattle.isa_conversion.proofs.Functions.{cond_some, bind_some, function_made}
 use Rattle.isa_kernel.specs.Logic.{prop, imp, eq, all}

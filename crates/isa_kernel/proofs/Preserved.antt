@@ -1,12 +1,11 @@
 -- What is derived is a proposition.
-use Rattle.std.proofs.Common.{◌≡◌, ℕ, zero, suc, ◌+◌, ◌<◌, List, [], ◌∷◌, ◌++◌, length, Bool, true, false, cond, ◌&&◌, Some, refl, sym, ap, ◌∙◌, subst, arith, append-nil, nat_eq, unwrap_or}
+use Rattle.std.proofs.Common.{◌≡◌, ℕ, zero, suc, ◌+◌, List, [], ◌∷◌, ◌++◌, length, Bool, true, false, cond, ◌&&◌, Some, refl, sym, ap, ◌∙◌, subst, arith, append-nil, nat_eq, unwrap_or}
 use Rattle.std.specs.List.{slice_get}
 use Rattle.isa_terms.specs.Types.{Ty}
 use Rattle.isa_terms.specs.Terms.{Tm, Const, Free, Unknown, Bound, Abs, App}
 use Rattle.isa_terms.specs.Equal.{name_eq, ty_eq}
-use Rattle.isa_terms.specs.Typing.{function_of, type_at}
-use Rattle.isa_terms.specs.Replace.{replace}
-use Rattle.isa_terms.specs.Binding.{close_at, close}
+use Rattle.isa_terms.specs.Typing.{function_of}
+use Rattle.isa_terms.specs.Binding.{close_at}
 use Rattle.isa_terms.specs.declared.inst.TypeEntry.{TypeEntry}
 use Rattle.isa_terms.specs.declared.inst.TermEntry.{TermEntry}
 use Rattle.isa_terms.specs.Instance.{find_term, inst_ty, inst_tm}

@@ -1,20 +1,19 @@
 -- Each inference keeps the derivation.
-use Rattle.std.proofs.Common.{◌≡◌, ◌⊎◌, inl, inr, ℕ, List, [], ◌∷◌, ◌++◌, map, Bool, true, false, Option, Some, None, Result, Ok, refl, sym, ap, ◌∙◌, subst}
+use Rattle.std.proofs.Common.{◌≡◌, ℕ, List, [], ◌∷◌, ◌++◌, true, false, Some, Ok, sym, ap, ◌∙◌, subst}
 use Rattle.isa_terms.specs.Types.{Ty}
-use Rattle.isa_terms.specs.Terms.{Tm, Free, Bound, Abs, App, bare}
-use Rattle.isa_terms.specs.Equal.{ty_eq, tm_eq}
-use Rattle.isa_terms.specs.Typing.{type_at, function_of, function_parts}
+use Rattle.isa_terms.specs.Terms.{Tm, Bound, Abs, App, bare}
+use Rattle.isa_terms.specs.Equal.{tm_eq}
+use Rattle.isa_terms.specs.Typing.{type_at, function_of}
 use Rattle.isa_terms.specs.Replace.{replace}
 use Rattle.isa_terms.specs.Binding.{occurs_in, close}
 use Rattle.isa_terms.specs.Sets.{joined, without}
 use Rattle.isa_terms.proofs.Bare.{tm_decides, type_at_bare, put_bare, close_bare}
-use Rattle.isa_terms.proofs.Equal.{ty_decides}
 use Rattle.isa_terms.specs.Typing.{HasType}
-use Rattle.isa_kernel.specs.Logic.{prop, imp, eq, all, IsProposition}
-use Rattle.isa_kernel.specs.Derivation.{Member, Within, Tree, Axiom, Assumption, ImpliesIntro, ImpliesElim, ForallIntro, ForallElim, Reflexive, Symmetric, Transitive, Combination, Abstraction, Beta, Eta, EqualIntro, EqualElim, Instance, Generalisation, Derives}
-use Rattle.isa_kernel.specs.Forms.{imp_parts, eq_parts, all_parts}
-use Rattle.isa_conversion.proofs.Functions.{function_made}
-use Rattle.isa_kernel.proofs.Parts.{imp_made, eq_made, all_made}
+use Rattle.isa_kernel.specs.Logic.{prop, imp, eq, all}
+use Rattle.isa_kernel.specs.Derivation.{Within, Tree, Axiom, Assumption, ImpliesIntro, ImpliesElim, ForallIntro, ForallElim, Reflexive, Symmetric, Transitive, Combination, Abstraction, Beta, Eta, EqualIntro, EqualElim, Instance, Generalisation, Derives}
+use Rattle.isa_kernel.specs.Forms.{imp_parts, eq_parts, quantifier_parts, at}
+use Rattle.isa_kernel.proofs.Parts.{imp_made, eq_made}
+use Rattle.isa_kernel.proofs.Quantifier.{quantifier_made, at_tree}
 use Rattle.isa_kernel.specs.declared.axioms.NamedProp.{NamedProp}
 use Rattle.isa_kernel.specs.Axioms.{propositions, joined_bases}
 use Rattle.isa_kernel.proofs.Members.{bares, Within-append, joined_left, joined_right, bases_left, bases_right, without_within, occurs_within}
@@ -80,10 +79,10 @@ forall_introduced_derived x T p B H n d = record {
   within = d.within;
 }
 
-pub forall_eliminated_derived : (s t : Tm) (x : List ℕ) (T : Ty) (b : Tm) (B : List NamedProp) (H : List Tm) → all_parts s ≡ Some (x, T, b) → HasType t T → IsDerivedOf B H s → IsDerivedOf B H (replace b t)
-forall_eliminated_derived s t x T b B H e h d = record {
+pub forall_eliminated_derived : (s t : Tm) (T : Ty) (P : Tm) (B : List NamedProp) (H : List Tm) → quantifier_parts s ≡ Some (T, P) → HasType t T → IsDerivedOf B H s → IsDerivedOf B H (at P t)
+forall_eliminated_derived s t T P B H e h d = record {
   used = d.used;
-  tree = subst (λ r. Tree (propositions B) d.used r) (sym (put_bare t 0 b)) (ForallElim (bare t) (type_at_bare [] t ∙ h) (subst (λ r. Tree (propositions B) d.used r) (ap bare (all_made s (x, T, b) e)) d.tree));
+  tree = at_tree T P t h (subst (λ r. Tree (propositions B) d.used r) (ap bare (quantifier_made s (T, P) e)) d.tree);
   within = d.within;
 }
 

@@ -1,22 +1,20 @@
 -- What an inference gives has a derivation where its premises have one.
-use Rattle.std.proofs.Common.{◌≡◌, ◌⊎◌, inl, inr, ℕ, List, [], ◌∷◌, ◌++◌, map, Bool, true, false, cond, ◌&&◌, Option, Some, None, Result, Ok, Err, refl, sym, ap, ◌∙◌, subst}
+use Rattle.std.proofs.Common.{◌≡◌, [], Bool, true, false, cond, ◌&&◌, Option, Some, None, Result, Ok, Err, refl, sym, ap, ◌∙◌, subst}
 use Rattle.isa_terms.specs.Types.{Ty}
-use Rattle.isa_terms.specs.Terms.{Tm, Free, Bound, Abs, App, bare}
+use Rattle.isa_terms.specs.Terms.{Tm, Abs, App}
 use Rattle.isa_terms.specs.Equal.{ty_eq, tm_eq}
 use Rattle.isa_terms.specs.Typing.{type_at, function_of, function_parts}
-use Rattle.isa_terms.specs.Replace.{replace}
-use Rattle.isa_terms.specs.Binding.{occurs_in, close}
-use Rattle.isa_terms.specs.Sets.{joined, without}
+use Rattle.isa_terms.specs.Binding.{occurs_in}
 use Rattle.isa_terms.specs.declared.typing.IllTyped.{IllTyped}
 use Rattle.isa_terms.proofs.Equal.{ty_decides}
 use Rattle.isa_terms.specs.Typing.{HasType}
-use Rattle.isa_kernel.specs.Logic.{prop, imp, eq, all}
-use Rattle.isa_kernel.specs.Forms.{app_parts, abs_parts, is_last, imp_parts, eq_parts, all_parts, free_parts}
+use Rattle.isa_kernel.specs.Logic.{prop}
+use Rattle.isa_kernel.specs.Forms.{app_parts, abs_parts, is_last, imp_parts, eq_parts, quantifier_parts, free_parts}
 use Rattle.isa_kernel.specs.Theorem.{Theorem, IsDerived}
 use Rattle.isa_kernel.specs.Inferences.{typed_as, has_type, well_typed, assumed, implies_introduced, implies_eliminated, forall_introduced, forall_eliminated, reflexive_at, turned, chained, combined, abstracted, contracted, shortened, equal_introduced, equal_eliminated}
 use Rattle.isa_conversion.proofs.Functions.{cond_some, bind_some, function_made}
-use Rattle.isa_kernel.proofs.Parts.{app_made, abs_made, last_made, free_made}
-use Rattle.isa_kernel.proofs.Rules.{IsDerivedOf, assumed_derived, implies_introduced_derived, implies_eliminated_derived, forall_introduced_derived, forall_eliminated_derived, reflexive_derived, turned_derived, chained_derived, combined_derived, abstracted_derived, contracted_derived, shortened_derived, equal_introduced_derived, equal_eliminated_derived}
+use Rattle.isa_kernel.proofs.Parts.{app_made, abs_made, last_made}
+use Rattle.isa_kernel.proofs.Rules.{assumed_derived, implies_introduced_derived, implies_eliminated_derived, forall_introduced_derived, forall_eliminated_derived, reflexive_derived, turned_derived, chained_derived, combined_derived, abstracted_derived, contracted_derived, shortened_derived, equal_introduced_derived, equal_eliminated_derived}
 
 -- a test that led to Some in its second case was false
 pub cond_none : {A : Type 0} (b : Bool) (o : Option A) {y : A} → cond b None o ≡ Some y → (b ≡ false) × (o ≡ Some y)
@@ -62,9 +60,9 @@ forall_introduced_sound x b th e d =
 
 pub forall_eliminated_sound : (t : Tm) (b th : Theorem) → forall_eliminated t b ≡ Some th → IsDerived b → IsDerived th
 forall_eliminated_sound t b th e d =
-    let p = bind_some (all_parts b.prop) _ e in
-    let h = cond_some (has_type t p.0.1) _ p.2 in
-    derived_some h.1 (record { derivation = forall_eliminated_derived b.prop t p.0.0 p.0.1 p.0.2 b.base b.hyps p.1 (has_type_is t p.0.1 h.0) d.derivation })
+    let p = bind_some (quantifier_parts b.prop) _ e in
+    let h = cond_some (has_type t p.0.0) _ p.2 in
+    derived_some h.1 (record { derivation = forall_eliminated_derived b.prop t p.0.0 p.0.1 b.base b.hyps p.1 (has_type_is t p.0.0 h.0) d.derivation })
 
 pub reflexive_sound : (t : Tm) (th : Theorem) → reflexive_at t ≡ Some th → IsDerived th
 reflexive_sound t th e =

@@ -1,5 +1,5 @@
 -- Axioms by name, as sets.
-use Rattle.std.specs.Prelude.{refl, ◌≡◌, ℕ, List, [], ◌∷◌, ◌++◌, map, Bool, false, ◌||◌, ◌&&◌, if◌then◌else◌}
+use Rattle.std.specs.Prelude.{refl, ℕ, List, [], ◌∷◌, ◌++◌, map, Bool, false, IsTrue, ◌||◌, ◌&&◌, if◌then◌else◌}
 use Rattle.std.specs.Coded.{Coded, code_by, coded×, coded_list, coded_ℕ}
 use Rattle.isa_terms.specs.Codes.{coded_tm}
 use Rattle.isa_terms.specs.Terms.{Tm, bare}
@@ -33,3 +33,8 @@ missing_axioms known (a ∷ rest) = if has_axiom known a then missing_axioms kno
 -- the first ones, and then those of the second that are not there
 abbrev pub joined_bases : List NamedProp → List NamedProp → List NamedProp
 joined_bases bs cs = bs ++ missing_axioms bs cs
+
+-- each of the first axioms is one of the second
+abbrev pub AreAmong : List NamedProp → List NamedProp → Type 0
+AreAmong [] cs = Unit {0}
+AreAmong (b ∷ bs) cs = IsTrue (has_axiom cs b) × AreAmong bs cs

@@ -1,4 +1,4 @@
--- What the inferences answer.
+-- What the inferences answer, each for its own form of arguments, and None for any other. They are those of Isabelle/Pure (The Isabelle/Isar Implementation Manual, "Primitive logic").
 use Rattle.std.specs.Prelude.{◌≡◌, ℕ, List, [], ◌∷◌, Option, Some, None, Bool, true, false, ◌&&◌, not, if◌then◌else◌, Result, Ok, Err}
 use Rattle.isa_terms.specs.Types.{Ty}
 use Rattle.isa_terms.specs.Terms.{Tm, Abs, App}
@@ -6,15 +6,14 @@ use Rattle.isa_terms.specs.Equal.{ty_eq, tm_eq}
 use Rattle.isa_terms.specs.Typing.{type_at, function_of, function_parts}
 use Rattle.isa_terms.specs.Replace.{replace}
 use Rattle.isa_terms.specs.Binding.{occurs_in, close}
-use Rattle.isa_terms.specs.Instance.{inst_ty, inst_tm, in_tms}
+use Rattle.isa_terms.specs.Instance.{Instance, inst_ty, in_tms, instance_of}
 use Rattle.isa_terms.specs.declared.inst.TypeEntry.{TypeEntry}
 use Rattle.isa_terms.specs.declared.inst.TermEntry.{TermEntry}
-use Rattle.isa_terms.specs.Norm.{norm}
 use Rattle.isa_terms.specs.Generalize.{gen_tm, named_in}
 use Rattle.isa_terms.specs.Sets.{joined, without}
 use Rattle.isa_terms.specs.declared.typing.IllTyped.{IllTyped}
 use Rattle.isa_kernel.specs.Logic.{prop, imp, eq, all}
-use Rattle.isa_kernel.specs.Forms.{◌>>=◌, app_parts, abs_parts, is_last, imp_parts, eq_parts, all_parts, free_parts}
+use Rattle.isa_kernel.specs.Forms.{◌>>=◌, app_parts, abs_parts, is_last, imp_parts, eq_parts, quantifier_parts, at, free_parts}
 use Rattle.isa_kernel.specs.Axioms.{joined_bases}
 use Rattle.isa_kernel.specs.Theorem.{Theorem}
 use Rattle.isa_kernel.specs.declared.inference.InferenceError.{InferenceError}
@@ -72,11 +71,11 @@ forall_introduced x th = do
   var ← free_parts x
   if occurs_in var.0 var.1 th.hyps then None else Some (record { hyps = th.hyps; prop = all var.0 var.1 (close var.0 var.1 th.prop); base = th.base })
 
--- B at t, from `!!x. B` for a t of the type of x
+-- B at t, from `!!x. B` for a t of the type of x; from `!!` over a predicate that is no abstraction, the predicate applied to t
 abbrev pub forall_eliminated : Tm → Theorem → Option Theorem
 forall_eliminated t th = do
-  parts ← all_parts th.prop
-  if has_type t parts.1 then Some (record { hyps = th.hyps; prop = replace parts.2 t; base = th.base }) else None
+  parts ← quantifier_parts th.prop
+  if has_type t parts.0 then Some (record { hyps = th.hyps; prop = at parts.1 t; base = th.base }) else None
 
 -- `t == t`, for a well-typed t
 abbrev pub reflexive_at : Tm → Option Theorem
@@ -147,9 +146,9 @@ abbrev pub keeps : List TypeEntry → List TermEntry → Bool
 keeps es [] = true
 keeps es (f ∷ fs) = has_type f.term (inst_ty es f.typ) && keeps es fs
 
--- the normal form of the instance, where types are kept and no instantiated unknown is in the hypotheses
-abbrev pub instantiated : List TypeEntry → List TermEntry → Theorem → Option Theorem
-instantiated es fs th = if keeps es fs && not (in_tms es fs th.hyps) then Some (record { hyps = th.hyps; prop = norm (inst_tm es fs th.prop); base = th.base }) else None
+-- the instance in normal form, where types are kept and no instantiated unknown is in the hypotheses
+abbrev pub instantiated : Instance → Theorem → Option Theorem
+instantiated s th = if keeps s.types s.terms && not (in_tms s.types s.terms th.hyps) then Some (record { hyps = th.hyps; prop = instance_of s th.prop; base = th.base }) else None
 
 -- unknowns of number 0 for the named free and type variables, where none of them is in the hypotheses
 abbrev pub generalized : List (List ℕ) → Theorem → Option Theorem

@@ -1,8 +1,7 @@
 ghost use Rattle.std.specs.Prelude.{◌≡◌, ◌<◌, [], ◌∷◌, ◌++◌, length, slice_get, Some, IsTrue, ◌↔◌, IfOk, OnOk, OnErr};
 ghost use Rattle.isa_kernel.specs.Axioms.{names_of, same_axiom, has_axiom, missing_axioms, joined_bases};
 
-use crate::names::Names;
-use isa_terms::{Name, Term, same_term};
+use isa_terms::{Name, Names, Term, same_term};
 use std::alloc::{AllocError, Global};
 use std::marker::Model;
 use std::rc::Rc;
@@ -119,6 +118,18 @@ pub(crate) fn no_base(alloc: Global) -> Result<Rc<Axioms>, AllocError>
     ensures { IfOk result (λ r. r.value ≡ []) }
 {
     Ok(Rc::new(alloc, Axioms::new(alloc))?)
+}
+
+/// The base of the axiom itself.
+pub(crate) fn only_axiom(alloc: Global, name: &Name, prop: &Term) -> Result<Rc<Axioms>, AllocError>
+    ensures { IfOk result (λ r. r.value ≡ record { name = name.now; prop = prop.now } ∷ []) }
+{
+    let mut base = Axioms::new(alloc);
+    base.push(NamedProp {
+        name: name.copy()?,
+        prop: prop.copy()?,
+    })?;
+    Ok(Rc::new(alloc, base)?)
 }
 
 /// Whether the axiom is one of those.

@@ -1,4 +1,4 @@
-ghost use Rattle.isa_kernel.specs.Laws.{NormalFormsAreDerived, DerivedArePropositions};
+ghost use Rattle.isa_kernel.specs.Laws.{NormalFormsAreDerived, DerivedArePropositions, InstancesAreFound, JoinsAreLeast};
 
 /// A well-typed term equals its normal form in the pure logic.
 pub fn normal_forms_are_derived()
@@ -8,4 +8,14 @@ pub fn normal_forms_are_derived()
 /// Whatever is derived is a well-typed proposition.
 pub fn derived_are_propositions()
     ensures { DerivedArePropositions }
+{}
+
+/// A type is an instance of a general one exactly where the test of `Misfit` says so.
+pub fn instances_are_found()
+    ensures { InstancesAreFound }
+{}
+
+/// Joined bases hold what each of the two holds, and nothing else.
+pub fn joins_are_least()
+    ensures { JoinsAreLeast }
 {}

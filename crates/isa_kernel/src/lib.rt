@@ -2,20 +2,27 @@
 #![tactic(auto)]
 
 mod axioms;
+mod declarations;
 mod form;
 mod inference;
 mod laws;
-mod names;
+mod logic;
+mod theory;
 mod thm;
 mod thms;
+mod type_instances;
 
 pub use axioms::{Axioms, NamedProp};
+pub use declarations::{AxiomFail, Declaration, TheoryFail};
 pub use form::{make_all, make_eq, make_imp, prop_type, split_all, split_eq, split_imp};
 pub use inference::InferenceError;
-pub use laws::{derived_are_propositions, normal_forms_are_derived};
-pub use names::Names;
+pub use laws::{
+    derived_are_propositions, instances_are_found, joins_are_least, normal_forms_are_derived,
+};
+pub use logic::Logic;
+pub use theory::Theory;
 pub use thm::{
-    Thm, abstract_rule, assume, beta, combination, equal_elim, equal_intr, eta, forall_elim,
+    Thm, abstract_rule, assume, axiom, beta, combination, equal_elim, equal_intr, eta, forall_elim,
     forall_intr, generalize, implies_elim, implies_intr, instantiate_thm, reflexive, symmetric,
     transitive,
 };

@@ -5,20 +5,22 @@ ghost use Rattle.isa_kernel.specs.Inferences.{Answers, TypedAs, IsChecked, has_t
 ghost use Rattle.isa_terms.specs.Typing.{type_at};
 ghost use Rattle.isa_terms.specs.Terms.{Abs};
 ghost use Rattle.isa_terms.specs.Binding.{close};
-ghost use Rattle.isa_terms.specs.Sets.{joined, without};
+ghost use Rattle.isa_terms.specs.Sets.{missing, joined, without};
 ghost use Rattle.isa_kernel.specs.Axioms.{names_of};
+ghost use Rattle.isa_kernel.specs.Theories.{AnswersAxiom};
 
-use crate::axioms::{Axioms, joined_bases, no_base};
+use crate::axioms::{Axioms, joined_bases, no_base, only_axiom};
+use crate::declarations::AxiomFail;
 use crate::form::{
-    is_last, is_prop, make_all, make_eq, make_imp, prop_type, split_abs, split_all, split_app,
-    split_eq, split_free, split_imp,
+    at, is_last, is_prop, make_all, make_eq, make_imp, prop_type, split_abs, split_app, split_eq,
+    split_free, split_imp, split_quantifier,
 };
 use crate::inference::InferenceError;
-use crate::names::Names;
+use crate::theory::Theory;
 use isa_terms::{
-    IllTyped, Name, Term, TermEntry, TermNode, Terms, Typ, TypeEntry, closed, function_type,
-    gen_term, in_some, inst_term, inst_typ, joined, named_in_some, norm, occurs_in, replaced,
-    same_term, same_typ, split_function, type_of, without,
+    IllTyped, Inst, Name, Names, Term, TermEntry, TermNode, Terms, Typ, TypeEntry, closed,
+    function_type, gen_term, has, in_some, inst_typ, instantiate, joined, named_in_some, occurs_in,
+    replaced, same_term, same_typ, split_function, type_of, without,
 };
 use std::alloc::{AllocError, Global};
 use std::marker::Model;
@@ -121,7 +123,19 @@ fn has_none(terms: &Terms) -> bool
     }
 }
 
-/// The first hypotheses, and then those of the second that are not there. An empty side leaves the other one shared.
+/// Whether all of the second hypotheses are among the first.
+fn holds_all(first: &[Term], second: &[Term]) -> bool
+    ensures { IsTrue result → missing first.now second.now ≡ [] }
+{
+    for u in second {
+        if !has(first, u) {
+            return false;
+        }
+    }
+    true
+}
+
+/// The first hypotheses, and then those of the second that are not there. Where one side has all, it is shared.
 #[tactic(auto, using(crate::proofs::Members::missing_none))]
 fn joined_hyps(
     alloc: Global,
@@ -130,11 +144,11 @@ fn joined_hyps(
 ) -> Result<Rc<Terms>, AllocError>
     ensures { IfOk result (λ r. r.value ≡ joined first.now.value second.now.value) }
 {
-    if has_none(second) {
-        return first.clone();
-    }
     if has_none(first) {
         return second.clone();
+    }
+    if holds_all(first.as_slice(), second.as_slice()) {
+        return first.clone();
     }
     Ok(Rc::new(alloc, joined(alloc, first.as_slice(), second.as_slice())?)?)
 }
@@ -172,6 +186,20 @@ fn check_prop(alloc: Global, t: &Term) -> Result<(), InferenceError>
     } else {
         Err(InferenceError::Shape)
     }
+}
+
+/// The declared axiom of that name.
+pub fn axiom(alloc: Global, thy: &Theory, name: &Name) -> Result<Thm, AxiomFail>
+    ensures { AnswersAxiom thy.now name.now result }
+{
+    let Some(prop) = thy.axiom_prop(name) else {
+        return Err(AxiomFail::UnknownAxiom(name.copy()?));
+    };
+    Ok(Thm {
+        hyps: no_hyps(alloc)?,
+        prop: prop.copy()?,
+        base: only_axiom(alloc, name, prop)?,
+    })
 }
 
 /// `a` under the hypothesis `a`, for a proposition a.
@@ -233,17 +261,17 @@ pub fn forall_intr(alloc: Global, x: &Term, th: &Thm) -> Result<Thm, InferenceEr
     })
 }
 
-/// B at t, from `!!x. B` for a t of the type of x.
+/// B at t, from `!!x. B` for a t of the type of x; from `!!` over a predicate that is no abstraction, the predicate applied to t.
 pub fn forall_elim(alloc: Global, t: &Term, th: &Thm) -> Result<Thm, InferenceError>
     ensures { Answers result (forall_eliminated t.now th.now) }
 {
-    let Some((_, typ, body)) = split_all(&th.prop) else {
+    let Some((typ, predicate)) = split_quantifier(&th.prop) else {
         return Err(InferenceError::Shape);
     };
     check_type(alloc, t, typ)?;
     Ok(Thm {
         hyps: th.hyps.clone()?,
-        prop: replaced(alloc, body, t)?,
+        prop: at(alloc, predicate, t)?,
         base: th.base.clone()?,
     })
 }
@@ -441,31 +469,28 @@ fn check_kept(alloc: Global, types: &[TypeEntry], terms: &[TermEntry]) -> Result
     Ok(())
 }
 
-/// The instance, normalised, where types are kept and no instantiated unknown is in the hypotheses.
-pub fn instantiate_thm(
-    alloc: Global,
-    types: &[TypeEntry],
-    terms: &[TermEntry],
-    th: &Thm,
-) -> Result<Thm, InferenceError>
-    ensures { Answers result (instantiated types.now terms.now th.now) }
+/// The instance, in normal form, where types are kept and no instantiated unknown is in the hypotheses.
+pub fn instantiate_thm(alloc: Global, s: &Inst, th: &Thm) -> Result<Thm, InferenceError>
+    ensures { Answers result (instantiated s.now th.now) }
 {
+    let types = s.types().as_slice();
+    let terms = s.terms().as_slice();
     check_kept(alloc, types, terms)?;
     if in_some(types, terms, th.hyps.as_slice()) {
         return Err(InferenceError::Shape);
     }
-    let instance = inst_term(alloc, types, terms, &th.prop)?;
     Ok(Thm {
         hyps: th.hyps.clone()?,
-        prop: norm(alloc, &instance)?,
+        prop: instantiate(alloc, s, &th.prop)?,
         base: th.base.clone()?,
     })
 }
 
 /// Unknowns of number 0 for the named free and type variables, where none of them is in the hypotheses.
-pub fn generalize(alloc: Global, names: &[Name], th: &Thm) -> Result<Thm, InferenceError>
+pub fn generalize(alloc: Global, names: &Names, th: &Thm) -> Result<Thm, InferenceError>
     ensures { Answers result (generalized names.now th.now) }
 {
+    let names = names.as_slice();
     if named_in_some(names, th.hyps.as_slice()) {
         return Err(InferenceError::Shape);
     }

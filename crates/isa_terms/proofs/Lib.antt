@@ -6,3 +6,4 @@ pub mod Entries
 pub mod Counts
 pub mod Ordered
 pub mod Shared
+pub mod Apart

@@ -10,7 +10,7 @@ use Rattle.isa_terms.specs.Norm.{loose, eta, eta_at, put_normal, beta, apply, le
 use Rattle.isa_terms.specs.Normal.{redex_at, redex}
 use Rattle.isa_terms.specs.Binding.{occurs, close_at}
 use Rattle.isa_terms.specs.Instance.{find_type, find_term, inst_ty, inst_tys, inst_tm, in_ty, in_tys, in_tm}
-use Rattle.isa_terms.specs.Generalize.{gen_ty, gen_tys, gen_tm, named_in_ty, named_in_tys, named_in_tm}
+use Rattle.isa_terms.specs.Generalize.{is_named, gen_ty, gen_tys, gen_tm, named_in_ty, named_in_tys, named_in_tm}
 use Rattle.isa_terms.specs.Order.{head_of}
 use Rattle.isa_terms.specs.Pattern.{is_unknown, is_pattern}
 use Rattle.isa_terms.specs.Facts.{ty_open, tys_open, ty_named, tys_named, loose_end, has_unknown, tm_open, has_free, tm_named, is_abs, is_normal}
@@ -49,13 +49,16 @@ raise_zero_bound : (i : ℕ) (b : Bool) → cond b (Bound i) (Bound (i + 0)) ≡
 raise_zero_bound i true = refl
 raise_zero_bound i false = let e : i + 0 ≡ i = omega arith in ap Bound e
 
-pub raise_zero : (k : ℕ) (t : Tm) → raise 0 k t ≡ t
-raise_zero k (Const x T) = refl
-raise_zero k (Free x T) = refl
-raise_zero k (Unknown x i T) = refl
-raise_zero k (Bound i) = raise_zero_bound i (nat_lt i k)
-raise_zero k (Abs x T b) = ap (Abs x T) (raise_zero (k + 1) b)
-raise_zero k (App f a) = λ i. App (raise_zero k f i) (raise_zero k a i)
+zero_raised : (k : ℕ) (t : Tm) → raise 0 k t ≡ t
+zero_raised k (Const x T) = refl
+zero_raised k (Free x T) = refl
+zero_raised k (Unknown x i T) = refl
+zero_raised k (Bound i) = raise_zero_bound i (nat_lt i k)
+zero_raised k (Abs x T b) = ap (Abs x T) (zero_raised (k + 1) b)
+zero_raised k (App f a) = λ i. App (zero_raised k f i) (zero_raised k a i)
+
+pub raise_zero : (n k : ℕ) (t : Tm) → n ≡ 0 → raise n k t ≡ t
+raise_zero n k t e = ap (λ m. raise m k t) e ∙ zero_raised k t
 
 put_bound_same : (a : Tm) (k i : ℕ) → i < k → cond (nat_eq i k) (raise k 0 a) (cond (nat_lt k i) (Bound (i - 1)) (Bound i)) ≡ Bound i
 put_bound_same a k i h = rw (unequal i k (λ e. omega arith), not_below i k (omega arith)) refl
@@ -249,3 +252,32 @@ pattern_stays (Abs x T b) h = pattern_stays b h
 pattern_stays (App f a) h =
     let o = or_false (has_unknown f) (has_unknown a) h in
     rw (no_unknown_head f o.0) (λ i. pattern_stays f o.0 i && pattern_stays a o.1 i)
+
+-- ---- types without the unknowns or names in question
+unfound : {A : Type 0} (o : Option A) (a : A) → is_some o ≡ false → unwrap_or o a ≡ a
+unfound None a h = refl
+unfound (Some b) a h = cc
+
+mutual
+  pub inst_ty_none : (es : List TypeEntry) (T : Ty) → in_ty es T ≡ false → inst_ty es T ≡ T
+  inst_ty_none es (TyCon x Ts) h = ap (TyCon x) (inst_tys_none es Ts h)
+  inst_ty_none es (TyFixed x) h = refl
+  inst_ty_none es (TyUnknown x i) h = unfound (find_type x i es) (TyUnknown x i) h
+
+  inst_tys_none : (es : List TypeEntry) (Ts : Tys) → in_tys es Ts ≡ false → inst_tys es Ts ≡ Ts
+  inst_tys_none es NoTys h = refl
+  inst_tys_none es (MoreTys T Ts) h = let o = or_false (in_ty es T) (in_tys es Ts) h in λ i. MoreTys (inst_ty_none es T o.0 i) (inst_tys_none es Ts o.1 i)
+
+fixed_none : (x : List ℕ) (b : Bool) → b ≡ false → cond b (TyUnknown x 0) (TyFixed x) ≡ TyFixed x
+fixed_none x true h = cc
+fixed_none x false h = refl
+
+mutual
+  pub gen_ty_none : (ns : List (List ℕ)) (T : Ty) → named_in_ty ns T ≡ false → gen_ty ns T ≡ T
+  gen_ty_none ns (TyCon x Ts) h = ap (TyCon x) (gen_tys_none ns Ts h)
+  gen_ty_none ns (TyFixed x) h = fixed_none x (is_named ns x) h
+  gen_ty_none ns (TyUnknown x i) h = refl
+
+  gen_tys_none : (ns : List (List ℕ)) (Ts : Tys) → named_in_tys ns Ts ≡ false → gen_tys ns Ts ≡ Ts
+  gen_tys_none ns NoTys h = refl
+  gen_tys_none ns (MoreTys T Ts) h = let o = or_false (named_in_ty ns T) (named_in_tys ns Ts) h in λ i. MoreTys (gen_ty_none ns T o.0 i) (gen_tys_none ns Ts o.1 i)

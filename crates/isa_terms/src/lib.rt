@@ -2,6 +2,7 @@
 #![tactic(auto)]
 
 mod binding;
+mod changes;
 mod facts;
 mod generalize;
 mod inst;
@@ -17,18 +18,22 @@ mod replace;
 mod same;
 mod term;
 mod terms;
+#[cfg(test)]
+mod tests;
 mod typ;
 mod typing;
 
 pub use binding::{closed, occurs, occurs_in};
 pub use generalize::{gen_term, gen_typ, named_in_some};
-pub use inst::{TermEntry, TypeEntry, in_some, in_term, in_typ, inst_term, inst_typ};
+pub use inst::{
+    TermEntry, TypeEntry, find_term, find_type, in_some, in_term, in_typ, inst_term, inst_typ,
+};
 pub use instance::{Inst, instantiate};
 pub use laws::term_order_is_total;
 pub use lists::{Names, TermEntries, Text, TypeEntries};
 pub use measure::size;
 pub use name::Name;
-pub use normal::{height, norm};
+pub use normal::{abstraction, height, norm};
 pub use order::{compare_terms, head};
 pub use pattern::{distinct_args, is_pattern};
 pub use replace::{put_at, raised, replaced};

@@ -1,48 +1,23 @@
 ghost use Rattle.std.specs.Prelude.{◌≡◌, IfOk};
-ghost use Rattle.isa_terms.specs.Norm.{ty_height, tys_height, loose, eta, put_normal, apply, levels, norm};
-ghost use Rattle.isa_terms.specs.Types.{tys_of};
+ghost use Rattle.isa_terms.specs.Terms as tm;
+ghost use Rattle.isa_terms.specs.Norm.{ty_height, eta, put_normal, apply, levels, norm};
 
+use crate::facts::is_loose;
 use crate::name::Name;
 use crate::replace::{raised, replaced};
 use crate::term::{Term, TermNode};
-use crate::typ::{Typ, TypNode};
+use crate::typ::Typ;
 use std::alloc::{AllocError, Global};
 
 /// How deeply a type is nested; no type is nested deeper than a u64 counts.
-#[cycle(height)]
 pub fn height(typ: &Typ) -> Result<u64, AllocError>
     ensures { IfOk result (λ n. n ≡ ty_height typ.now) }
 {
-    match typ.view() {
-        TypNode::Con(_, args) => heights(args.as_slice())?.checked_add(1).ok_or(AllocError),
-        TypNode::Fixed(_) | TypNode::Unknown(_, _) => Ok(1),
-    }
-}
-
-#[cycle(height)]
-fn heights(args: &[Typ]) -> Result<u64, AllocError>
-    ensures { IfOk result (λ n. n ≡ tys_height (tys_of args.now)) }
-{
-    match args.split_first() {
-        None => Ok(0),
-        Some((first, rest)) => Ok(height(first)?.max(heights(rest)?)),
-    }
-}
-
-/// Whether the variable `depth` of as many binders is in the term.
-fn is_loose(depth: u32, t: &Term) -> Result<bool, AllocError>
-    ensures { IfOk result (λ r. r ≡ loose depth t.now) }
-{
-    match t.view() {
-        TermNode::Const(_, _) | TermNode::Free(_, _) | TermNode::Unknown(_, _, _) => Ok(false),
-        TermNode::Bound(number) => Ok(*number == depth),
-        TermNode::Abs(_, _, body) => is_loose(depth.checked_add(1).ok_or(AllocError)?, body),
-        TermNode::App(fun, arg) => Ok(is_loose(depth, fun)? || is_loose(depth, arg)?),
-    }
+    Ok(typ.facts().height)
 }
 
 /// The abstraction over the body, eta short.
-fn abstraction(alloc: Global, name: &Name, typ: &Typ, body: Term) -> Result<Term, AllocError>
+pub fn abstraction(alloc: Global, name: &Name, typ: &Typ, body: Term) -> Result<Term, AllocError>
     ensures { IfOk result (λ t. t ≡ eta name.now typ.now body) }
 {
     if let TermNode::App(fun, arg) = body.view() {
@@ -57,6 +32,7 @@ fn abstraction(alloc: Global, name: &Name, typ: &Typ, body: Term) -> Result<Term
 
 /// The argument in the place of the variable `depth` of as many binders.
 #[cycle(normal)]
+#[tactic(auto, using(crate::proofs::Shared::put_normal_same))]
 fn put_normal(
     alloc: Global,
     levels: u64,
@@ -66,6 +42,9 @@ fn put_normal(
 ) -> Result<Term, AllocError>
     ensures { IfOk result (λ t. t ≡ put_normal (apply levels) argument.now depth body.now) }
 {
+    if body.facts().is_normal && body.facts().loose_end <= u64::from(depth) {
+        return body.copy();
+    }
     match body.view() {
         TermNode::Const(_, _) | TermNode::Free(_, _) | TermNode::Unknown(_, _, _) => body.copy(),
         TermNode::Bound(number) => {
@@ -97,12 +76,19 @@ fn apply(alloc: Global, levels: u64, fun: &Term, arg: &Term) -> Result<Term, All
     ensures { IfOk result (λ t. t ≡ apply levels fun.now arg.now) }
 {
     if levels == 0 {
-        return Term::new(alloc, TermNode::App(fun.copy()?, arg.copy()?));
+        return applied(alloc, fun, arg);
     }
     match fun.view() {
         TermNode::Abs(_, _, body) => put_normal(alloc, levels - 1, arg, 0, body),
-        _ => Term::new(alloc, TermNode::App(fun.copy()?, arg.copy()?)),
+        _ => applied(alloc, fun, arg),
     }
+}
+
+/// The application as it stands.
+fn applied(alloc: Global, fun: &Term, arg: &Term) -> Result<Term, AllocError>
+    ensures { IfOk result (λ t. t ≡ tm.App fun.now arg.now) }
+{
+    Term::new(alloc, TermNode::App(fun.copy()?, arg.copy()?))
 }
 
 /// How deeply the type of an abstraction's variable is nested.
@@ -116,9 +102,13 @@ fn levels(fun: &Term) -> Result<u64, AllocError>
 }
 
 /// The normal form of a well-typed term: beta normal and eta short.
+#[tactic(auto, using(crate::proofs::Shared::norm_stays))]
 pub fn norm(alloc: Global, t: &Term) -> Result<Term, AllocError>
     ensures { IfOk result (λ r. r ≡ norm t.now) }
 {
+    if t.facts().is_normal {
+        return t.copy();
+    }
     match t.view() {
         TermNode::Const(_, _)
         | TermNode::Free(_, _)

@@ -68,9 +68,13 @@ fn rigid_args(t: &Term) -> bool
 
 /// Whether each unknown of a term in normal form is applied to distinct bound variables only.
 #[cycle(pattern)]
+#[tactic(auto, using(crate::proofs::Shared::pattern_stays))]
 pub fn is_pattern(t: &Term) -> bool
     ensures { result ≡ is_pattern t.now }
 {
+    if !t.facts().has_unknown {
+        return true;
+    }
     match t.view() {
         TermNode::App(fun, arg) => {
             if is_unknown(head(fun)) {

@@ -1,7 +1,6 @@
 -- Unification ends, and `unified` says with what.
 use Rattle.std.proofs.Common.{◌≡◌, ℕ, zero, suc, ◌+◌, ◌-◌, ◌<◌, ◌≤◌, List, [], ◌∷◌, ◌++◌, map, filter, length, Bool, true, false, cond, ◌&&◌, ◌||◌, nat_eq, refl, sym, ap, subst, ◌∙◌, ◌⊎◌, inl, inr, arith, Option, Some, None, length-append}
 use Rattle.std.specs.Prelude.{is_some}
-use Rattle.std.proofs.lemmas.Bool.Decides.{Decides-eqb}
 use Rattle.std.proofs.lemmas.List.{length-map}
 use Rattle.isa_terms.specs.Types.{Ty}
 use Rattle.isa_terms.specs.Terms.{Tm, Const, Free, Unknown, Bound, Abs, App}
@@ -16,12 +15,12 @@ use Rattle.isa_unify.specs.declared.progress.Verdict.{Verdict}
 use Rattle.isa_unify.specs.declared.progress.Verdict.TheVariants.{Fine, Refused, Strays, Prunes}
 use Rattle.isa_unify.specs.declared.progress.State.{State}
 use Rattle.isa_unify.specs.declared.progress.Answer.{Answer}
-use Rattle.isa_unify.specs.declared.progress.Answer.TheVariants.{Yes, No, Outside}
+use Rattle.isa_unify.specs.declared.progress.Answer.TheVariants.{Yes, Outside}
 use Rattle.isa_unify.specs.Descent as Ending
 use Rattle.isa_unify.specs.Descent.{Step, Done, Lighter, Solved, descend}
 use Rattle.isa_unify.specs.TypeUnification.{unify_typs}
 use Rattle.isa_unify.specs.Spines.{head_of, args_of, has_number, distinct_bounds}
-use Rattle.isa_unify.specs.Unification.{parts_at, weight, clash_step_at, clash_step, clashes, abstracted, over, range_behind, first_place, filled_state, retyped_state, UnifyStep, becomes, with_new, with_first, solve_at, solve, agreeing, solve_same, solve_two, solve_unknowns, on_pattern, flexible_step, after_types, front_step, unify_step, unknowns_of, all_unknowns_of, unified}
+use Rattle.isa_unify.specs.Unification.{parts_at, weight, clash_step_at, clash_step, clashes, abstracted, over, range_behind, first_place, filled_state, UnifyStep, becomes, with_new, with_first, solve_at, solve, agreeing, solve_same, solve_two, on_pattern, flexible_step, after_types, front_step, unify_step, unknowns_of, all_unknowns_of, unified}
 use Rattle.isa_unify.proofs.Descent.{Reaches, Within, bounded, ends_once}
 use Rattle.isa_unify.proofs.Unknowns.{Key, key, key_eq, key_eq-true, key_eq_self, stands, either_true, or_left, or_right}
 use Rattle.isa_unify.proofs.Measure.{occurs, head_stands, weight-retyped_equations, weight-append, AreParts, PartsFall, parts_fall}
@@ -444,7 +443,7 @@ steps_left-solved s t e = (ends_once (unified_reached s).1 (Ending.solved t e (u
 
 -- 7. Clashes
 
-abbrev ClashGoes : List Equation → Step (List Equation) Bool → Type 0
+abbrev pub ClashGoes : List Equation → Step (List Equation) Bool → Type 0
 ClashGoes es (Done a) = Unit {0}
 ClashGoes es (Lighter fs) = weight fs < weight es
 ClashGoes es (Solved fs) = ⊥
@@ -463,12 +462,12 @@ clash_parts e es (Heads S T parts) q = go (is_some (unify_typs ((S, T) ∷ [])))
         let a = weight-append parts es in omega (arith, f, a)
     go false = tt
 
-clash_goes : (es : List Equation) → ClashGoes es (clash_step es)
+pub clash_goes : (es : List Equation) → ClashGoes es (clash_step es)
 unfolding clash_step
 clash_goes [] = tt
 clash_goes (e ∷ es) = clash_parts e es (parts_at e.binders e.left e.right) refl
 
-clashes_reached : (es : List Equation) → Reaches clash_step (clashes es) es
+pub clashes_reached : (es : List Equation) → Reaches clash_step (clashes es) es
 unfolding clashes
 clashes_reached es = bounded clash_step weight true (λ n s. n ≡ n) (λ n s p. at n s (clash_step s) (clash_goes s)) 1 0 es (omega arith) refl
   where

@@ -1,5 +1,5 @@
 -- What stands in a term after unknowns or types are replaced, and what the first place that decides says.
-use Rattle.std.proofs.Common.{◌≡◌, ℕ, suc, ◌+◌, ◌-◌, List, [], ◌∷◌, ◌++◌, map, filter, length, Bool, true, false, cond, ◌&&◌, ◌||◌, nat_eq, nat_lt, refl, sym, ap, ◌∙◌, ◌⊎◌, inl, inr, Option, Some, None, unwrap_or}
+use Rattle.std.proofs.Common.{◌≡◌, ℕ, ◌+◌, ◌-◌, List, [], ◌∷◌, ◌++◌, map, filter, length, Bool, true, false, cond, ◌&&◌, ◌||◌, nat_eq, nat_lt, refl, sym, ap, ◌∙◌, ◌⊎◌, inl, inr, Option, Some, None, unwrap_or}
 use Rattle.std.specs.Prelude.{option_map, option_and_then}
 use Rattle.isa_terms.specs.Types.{Ty, Tys, TyCon, TyFixed, TyUnknown, NoTys, MoreTys}
 use Rattle.isa_terms.specs.Terms.{Tm, Const, Free, Unknown, Bound, Abs, App}
@@ -11,10 +11,10 @@ use Rattle.isa_unify.specs.declared.equation.Variable.{Variable}
 use Rattle.isa_unify.specs.declared.equation.Equation.{Equation}
 use Rattle.isa_unify.specs.declared.progress.Verdict.{Verdict}
 use Rattle.isa_unify.specs.declared.progress.Verdict.TheVariants.{Fine, Refused, Strays, Prunes}
-use Rattle.isa_unify.specs.Spines.{head_of, args_of, is_flexible, are_distinct, bounds_of, if_distinct, distinct_bounds}
+use Rattle.isa_unify.specs.Spines.{head_of, args_of, is_flexible, bounds_of, if_distinct, distinct_bounds}
 use Rattle.isa_unify.specs.Unification.{retyped, retyped_equation, filled, filled_equation, bind_all, variable, place_behind, moved, abstracted, arrows, on_bounds, over, allowed, at_pattern, at_unknown, first_verdict, first_place}
 use Rattle.isa_unify.proofs.Unknowns.{Key, key, key_eq, key_eq-true, key_eq_self, stands, stands-eta, stands-norm, either_true, or_left, or_right}
-use Rattle.isa_unify.proofs.Measure.{some_stands, some_either, occurs}
+use Rattle.isa_unify.proofs.Measure.{some_stands, occurs}
 
 -- 1. Terms for unknowns
 

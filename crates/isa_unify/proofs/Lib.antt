@@ -9,6 +9,11 @@ pub mod Unknowns
 pub mod Measure
 pub mod Assigned
 pub mod Adequacy
+pub mod Loops
+pub mod Lists
+pub mod NoTypes
+pub mod Once
+pub mod Entries
 pub mod Flexible
 pub mod TypeAnswers
 pub mod Solutions
@@ -16,3 +21,4 @@ pub mod PatternMatches
 pub mod PatternComplete
 pub mod MatchAnswers
 pub mod AllMatches
+pub mod FlexibleSteps

@@ -160,6 +160,7 @@ chosen_inner false o es h = absurd h
 chosen_typed : (c : Bool) (S T : Ty) (o : Option (List Equation)) (es : List Equation) → AreParts (cond c (typed_parts S T o) Clash) es → o ≡ Some es
 chosen_typed true S T o es h = typed_some S T o es h
 chosen_typed false S T o es h = absurd h
+
 meet_paired : (bs : List Variable) (g : Tm) (ts : List Tm) (h : Tm) (us : List Tm) (es : List Equation) → AreParts (meet bs g ts h us) es → paired bs ts us ≡ Some es
 meet_paired bs (Const x1 T1) ts (Const x2 T2) us es p = chosen_typed (name_eq x1 x2) T1 T2 (paired bs ts us) es p
 meet_paired bs (Const x1 T1) ts (Free x2 T2) us es p = absurd p

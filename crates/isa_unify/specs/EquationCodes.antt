@@ -1,5 +1,5 @@
 -- How equations are stored.
-use Rattle.std.specs.Prelude.{ℕ, List, refl}
+use Rattle.std.specs.Prelude.{List, refl}
 use Rattle.std.specs.Coded.{Coded, code_by, coded×, coded_list}
 use Rattle.isa_terms.specs.Terms.{Tm}
 use Rattle.isa_terms.specs.Codes.{coded_tm}

@@ -7,3 +7,8 @@ pub mod VariableCodes
 pub mod EquationCodes
 pub mod Spines
 pub mod Unification
+pub mod Steps
+pub mod Calls
+pub mod Worked
+pub mod UnificationRows
+pub mod Laws

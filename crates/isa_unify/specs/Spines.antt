@@ -1,7 +1,6 @@
 -- Heads, arguments, and the variables to which an unknown is applied.
 use Rattle.std.specs.Prelude.{ℕ, Bool, true, false, not, ◌&&◌, ◌||◌, nat_eq, if◌then◌else◌, List, [], ◌∷◌, ◌++◌, Option, Some, None, option_map, option_and_then}
-use Rattle.isa_terms.specs.Types.{Ty}
-use Rattle.isa_terms.specs.Terms.{Tm, Const, Free, Unknown, Bound, Abs, App}
+use Rattle.isa_terms.specs.Terms.{Tm, Unknown, Bound, App}
 
 -- what is applied to the arguments of a term
 abbrev pub head_of : Tm → Tm

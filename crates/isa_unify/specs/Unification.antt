@@ -1,5 +1,5 @@
 -- Unification of terms by patterns, after Miller and Nipkow; the order of the steps is this project's.
-use Rattle.std.specs.Prelude.{ℕ, suc, ◌+◌, ◌-◌, Bool, true, false, ◌&&◌, nat_eq, nat_lt, if◌then◌else◌, List, [], ◌∷◌, ◌++◌, map, filter, length, Option, Some, None, option_map, Result, Ok, Err, slice_get, unwrap_or, is_some}
+use Rattle.std.specs.Prelude.{ℕ, suc, ◌+◌, ◌-◌, Bool, true, false, ◌&&◌, nat_eq, nat_lt, if◌then◌else◌, List, [], ◌∷◌, ◌++◌, map, filter, length, Option, Some, None, option_map, Result, Ok, slice_get, unwrap_or, is_some}
 use Rattle.isa_terms.specs.Types.{Ty, Tys, TyCon, TyFixed, TyUnknown, NoTys, MoreTys}
 use Rattle.isa_terms.specs.Terms.{Tm, Const, Free, Unknown, Bound, Abs, App}
 use Rattle.isa_terms.specs.Equal.{name_eq}
@@ -211,19 +211,31 @@ UnifyStep = Step State Answer
 abbrev pub becomes : List ℕ → ℕ → Ty → Tm → TermEntry
 becomes x i T t = record { name = x; number = i; typ = T; term = t }
 
--- a step that takes the number of a new unknown
+-- the unknown becomes t
+abbrev pub assigned : State → List ℕ → ℕ → Ty → Tm → State
+assigned st x i T t = filled_state (becomes x i T t ∷ []) st
+
+-- the unknown on the variables ys becomes the new unknown of that number over those that it keeps
+abbrev pub renewed : State → List Variable → List ℕ → ℕ → Ty → List ℕ → ℕ → List ℕ → State
+renewed st bs x i T ys new kept = assigned st x i T (abstracted bs ys (over bs x new kept (range_behind ys T)))
+
+-- the number of a new unknown is taken
+abbrev pub after_new : State → State
+after_new st = record st { next = st.next + 1; left = st.left - 1 }
+
+-- a step with a new unknown, of which there is a number left
 abbrev pub with_new : State → (ℕ → State → UnifyStep) → UnifyStep
-with_new st f = if nat_eq st.left 0 then Done Outside else f st.next (record st { next = st.next + 1; left = st.left - 1 })
+with_new st f = if nat_eq st.left 0 then Done Outside else f st.next (after_new st)
 
 abbrev pub with_first : Equation → State → State
 with_first e st = record st { equations = e ∷ st.equations }
 
 -- ?F xs against the rigid t: F is solved, or an unknown of t loses variables and the equation comes again
 abbrev pub solve_at : State → Equation → List ℕ → ℕ → Ty → List ℕ → Tm → Verdict → UnifyStep
-solve_at st e f k S xs t Fine = Solved (filled_state (becomes f k S (abstracted e.binders xs t) ∷ []) st)
+solve_at st e f k S xs t Fine = Solved (assigned st f k S (abstracted e.binders xs t))
 solve_at st e f k S xs t Refused = Done No
 solve_at st e f k S xs t Strays = Done Outside
-solve_at st e f k S xs t (Prunes x i T bs ys kept) = with_new st (λ new st'. Solved (filled_state (becomes x i T (abstracted bs ys (over bs x new kept (range_behind ys T))) ∷ []) (with_first e st')))
+solve_at st e f k S xs t (Prunes x i T bs ys kept) = with_new st (λ new st'. Solved (renewed (with_first e st') bs x i T ys new kept))
 
 abbrev pub solve : State → Equation → List ℕ → ℕ → Ty → List ℕ → Tm → UnifyStep
 solve st e f k S xs t = solve_at st e f k S xs t (first_place f k xs 0 e.binders t)
@@ -238,13 +250,14 @@ abbrev pub solve_same : State → Equation → List ℕ → ℕ → Ty → List 
 solve_same st e f k S xs ys =
     let kept = agreeing xs ys in
     if nat_eq (length kept) (length xs) then Lighter st else
-    with_new st (λ new st'. Solved (filled_state (becomes f k S (abstracted e.binders xs (over e.binders f new kept (range_behind xs S))) ∷ []) st'))
+    with_new st (λ new st'. Solved (renewed st' e.binders f k S xs new kept))
 
 -- ?F xs against ?G ys
+abbrev pub both_become : State → Equation → List ℕ → ℕ → Ty → List ℕ → List ℕ → ℕ → Ty → List ℕ → Tm → State
+both_become st e f k S xs g i T ys h = filled_state (becomes f k S (abstracted e.binders xs h) ∷ becomes g i T (abstracted e.binders ys h) ∷ []) st
+
 abbrev pub solve_two : State → Equation → List ℕ → ℕ → Ty → List ℕ → List ℕ → ℕ → Ty → List ℕ → UnifyStep
-solve_two st e f k S xs g i T ys = with_new st (λ new st'.
-    let h = over e.binders f new (filter (has_number ys) xs) (range_behind xs S) in
-    Solved (filled_state (becomes f k S (abstracted e.binders xs h) ∷ becomes g i T (abstracted e.binders ys h) ∷ []) st'))
+solve_two st e f k S xs g i T ys = with_new st (λ new st'. Solved (both_become st' e f k S xs g i T ys (over e.binders f new (filter (has_number ys) xs) (range_behind xs S))))
 
 abbrev pub solve_unknowns : State → Equation → List ℕ → ℕ → Ty → List ℕ → List ℕ → ℕ → Ty → List ℕ → UnifyStep
 solve_unknowns st e f k S xs g i T ys = if name_eq f g && nat_eq k i then solve_same st e f k S xs ys else solve_two st e f k S xs g i T ys

@@ -1,4 +1,4 @@
-ghost use Rattle.std.specs.Prelude.{◌≡◌, [], ◌∷◌, ◌++◌, slice_get, IfOk, OnOk, OnErr, IfSome, IfNone};
+ghost use Rattle.std.specs.Prelude.{◌≡◌, [], ◌∷◌, ◌++◌, slice_get, reverse, IfOk, OnOk, OnErr, IfSome, IfNone};
 ghost use Rattle.std.specs.Option.{option_copied};
 
 use isa_terms::{Name, Term, Typ};
@@ -53,6 +53,15 @@ impl Binders {
         })
     }
 
+    /// The variables, the innermost first.
+    pub fn of(alloc: Global, variables: Vec<Variable>) -> Result<Binders, AllocError>
+        ensures { IfOk result (λ bs. bs ≡ variables.items) }
+    {
+        Ok(Binders {
+            items: Rc::new(alloc, variables)?,
+        })
+    }
+
     pub fn copy(&self) -> Result<Binders, AllocError>
         ensures { IfOk result (λ bs. bs ≡ self.now) }
     {
@@ -65,6 +74,13 @@ impl Binders {
         ensures { result.now ≡ self.now }
     {
         self.items.as_ref().as_slice()
+    }
+
+    /// The variable with that number.
+    pub fn get(&self, number: u32) -> Option<&Variable>
+        ensures { option_copied result ≡ slice_get self.now number }
+    {
+        self.as_slice().get(number as usize)
     }
 
     /// The variables under one more binder.
@@ -88,6 +104,18 @@ pub struct Equation {
     pub binders: Binders,
     pub left: Term,
     pub right: Term,
+}
+
+impl Equation {
+    pub fn copy(&self) -> Result<Equation, AllocError>
+        ensures { IfOk result (λ e. e ≡ self.now) }
+    {
+        Ok(Equation {
+            binders: self.binders.copy()?,
+            left: self.left.copy()?,
+            right: self.right.copy()?,
+        })
+    }
 }
 
 /// A list of equations, the first of which is taken first.
@@ -118,12 +146,46 @@ impl Equations {
         }
     }
 
+    pub fn copied(&self, alloc: Global) -> Result<Equations, AllocError>
+        ensures { IfOk result (λ es. es ≡ self.now) }
+    {
+        let mut stack = Vec::new(alloc);
+        for equation in &self.stack {
+            stack.push(equation.copy()?)?;
+        }
+        Ok(Equations { stack })
+    }
+
     /// Takes the first equation.
     pub fn take_first(&mut self) -> Option<Equation>
         ensures some { IfSome result (λ e. self.old ≡ e ∷ self.new) }
         ensures none { IfNone result (self.old ≡ []) }
     {
         self.stack.pop()
+    }
+
+    /// The equations from the last to the first.
+    pub fn last_first(&self) -> &[Equation]
+        ensures { reverse result.now ≡ self.now }
+    {
+        self.stack.as_slice()
+    }
+
+    /// The equations, given from the last to the first.
+    pub fn of_last_first(stack: Vec<Equation>) -> Equations
+        ensures { result ≡ reverse stack.items }
+    {
+        Equations { stack }
+    }
+
+    /// Puts the other equations in front, in their order.
+    #[tactic(auto, using(crate::proofs::Lists::put_first_all))]
+    pub fn put_all_first(&mut self, others: Equations) -> Result<(), AllocError>
+        ensures { OnOk result (self.new ≡ others ++ self.old) }
+    {
+        let Equations { mut stack } = others;
+        self.stack.append(&mut stack)?;
+        Ok(())
     }
 
     pub fn put_first(&mut self, equation: Equation) -> Result<(), AllocError>

@@ -1,15 +1,30 @@
 //! Unification of types, matching of patterns, and unification of patterns.
 #![tactic(auto)]
 
+mod abstractions;
+mod asking;
 mod binders;
+mod clashing;
 mod equation;
+mod filling;
+mod fresh;
+mod laws;
 mod lookup;
 mod matching;
 mod numbers;
+mod parts;
+mod places;
 mod progress;
+mod spines;
+mod steps;
 #[cfg(test)]
 mod tests;
 mod types;
+mod unification;
 
 pub use matching::{match_pattern, match_patterns};
+pub use fresh::Fresh;
+pub use laws::unification_ends;
+pub use matching::match_pattern;
 pub use types::{TypePair, unify_type_pairs, unify_types};
+pub use unification::{TermPair, Unified, unify, unify_pairs};

@@ -1,4 +1,3 @@
-
 use crate::equation::{Binders, Equations};
 use crate::numbers::Numbers;
 use isa_terms::{Name, TermEntries, Typ, TypeEntries};
@@ -54,4 +53,11 @@ pub enum Answer {
 pub enum Progress {
     Going(State),
     Ended(Answer),
+}
+
+/// What a step of the walk that looks for clashes leads to.
+#[derive(Drop)]
+pub enum Walk {
+    Goes(Equations),
+    Ends(bool),
 }

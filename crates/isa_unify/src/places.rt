@@ -1,0 +1,167 @@
+//! The first place of a term that decides for an unknown.
+
+ghost use Rattle.std.specs.Prelude.{◌≡◌, ◌∷◌, [], ◌++◌, filter, IfOk};
+ghost use Rattle.isa_unify.specs.Spines.{has_number};
+ghost use Rattle.isa_unify.specs.Unification.{allowed, at_pattern, at_unknown, first_place};
+
+use crate::equation::{Binders, Variable};
+use crate::numbers::Numbers;
+use crate::progress::Verdict;
+use crate::spines::{args_of, distinct_bounds, has_number, head_of, is_flexible};
+use isa_terms::{Name, Term, TermNode, Typ};
+use std::alloc::{AllocError, Global};
+
+/// Whether the variable under so many binders of the term is one of these, or one of the unknown's.
+fn is_allowed(variables: &[u32], depth: u32, number: u32) -> bool
+    ensures { result ≡ allowed variables.now depth number }
+{
+    if number < depth {
+        true
+    } else {
+        has_number(variables, number - depth)
+    }
+}
+
+/// The numbers that are allowed.
+fn allowed_of(
+    alloc: Global,
+    variables: &[u32],
+    depth: u32,
+    numbers: &[u32],
+) -> Result<Numbers, AllocError>
+    ensures { IfOk result (λ kept. kept ≡ filter (allowed variables.now depth) numbers.now) }
+{
+    let mut kept = Numbers::new(alloc);
+    for number in numbers {
+        if is_allowed(variables, depth, *number) {
+            kept.push(*number)?;
+        }
+    }
+    Ok(kept)
+}
+
+/// The numbers that are in the other list.
+pub fn shared_of(alloc: Global, others: &[u32], numbers: &[u32]) -> Result<Numbers, AllocError>
+    ensures { IfOk result (λ kept. kept ≡ filter (has_number others.now) numbers.now) }
+{
+    let mut kept = Numbers::new(alloc);
+    for number in numbers {
+        if has_number(others, *number) {
+            kept.push(*number)?;
+        }
+    }
+    Ok(kept)
+}
+
+/// An unknown and the bound variables to which it is applied.
+#[derive(Drop)]
+pub struct Pattern<'t> {
+    pub name: &'t Name,
+    pub number: u32,
+    pub typ: &'t Typ,
+    pub variables: &'t [u32],
+}
+
+/// An unknown on distinct variables: the one that is solved, or another.
+fn at_pattern(
+    alloc: Global,
+    solved: &Pattern<'_>,
+    depth: u32,
+    binders: &Binders,
+    name: &Name,
+    number: u32,
+    typ: &Typ,
+    variables: Numbers,
+) -> Result<Verdict, AllocError>
+    ensures { IfOk result (λ v. v ≡ at_pattern solved.now.name.now solved.now.number solved.now.variables.now depth binders.now name.now number typ.now variables) }
+{
+    if solved.name.same(name) && solved.number == number {
+        return Ok(Verdict::Refused);
+    }
+    let kept = allowed_of(alloc, solved.variables, depth, variables.as_slice())?;
+    if kept.len() == variables.len() {
+        return Ok(Verdict::Fine);
+    }
+    Ok(Verdict::Prunes(
+        name.copy()?,
+        number,
+        typ.copy()?,
+        binders.copy()?,
+        variables,
+        kept,
+    ))
+}
+
+/// A term whose head is an unknown.
+fn at_unknown(
+    alloc: Global,
+    solved: &Pattern<'_>,
+    depth: u32,
+    binders: &Binders,
+    head: &Term,
+    args: &[Term],
+) -> Result<Verdict, AllocError>
+    ensures { IfOk result (λ v. v ≡ at_unknown solved.now.name.now solved.now.number solved.now.variables.now depth binders.now head.now args.now) }
+{
+    match head.view() {
+        TermNode::Unknown(name, number, typ) => match distinct_bounds(alloc, args)? {
+            None => Ok(Verdict::Strays),
+            Some(variables) => at_pattern(
+                alloc, solved, depth, binders, name, *number, typ, variables,
+            ),
+        },
+        _ => Ok(Verdict::Fine),
+    }
+}
+
+/// What the first place that decides, in preorder, says.
+pub fn first_place(
+    alloc: Global,
+    solved: &Pattern<'_>,
+    depth: u32,
+    binders: &Binders,
+    t: &Term,
+) -> Result<Verdict, AllocError>
+    ensures { IfOk result (λ v. v ≡ first_place solved.now.name.now solved.now.number solved.now.variables.now depth binders.now t.now) }
+{
+    match t.view() {
+        TermNode::Const(_, _) | TermNode::Free(_, _) => Ok(Verdict::Fine),
+        TermNode::Unknown(name, number, typ) => at_pattern(
+            alloc,
+            solved,
+            depth,
+            binders,
+            name,
+            *number,
+            typ,
+            Numbers::new(alloc),
+        ),
+        TermNode::Bound(number) => {
+            if is_allowed(solved.variables, depth, *number) {
+                Ok(Verdict::Fine)
+            } else {
+                Ok(Verdict::Refused)
+            }
+        }
+        TermNode::Abs(name, typ, body) => {
+            let under = depth.checked_add(1).ok_or(AllocError)?;
+            let variable = Variable {
+                name: name.copy()?,
+                typ: typ.copy()?,
+            };
+            let binders = binders.under(alloc, variable)?;
+            first_place(alloc, solved, under, &binders, body)
+        }
+        TermNode::App(fun, arg) => {
+            if is_flexible(fun) {
+                let mut args = args_of(alloc, fun)?;
+                args.push(arg.copy()?)?;
+                return at_unknown(alloc, solved, depth, binders, head_of(fun), args.as_slice());
+            }
+            match first_place(alloc, solved, depth, binders, fun)? {
+                Verdict::Fine => first_place(alloc, solved, depth, binders, arg),
+                verdict => Ok(verdict),
+            }
+        }
+    }
+}

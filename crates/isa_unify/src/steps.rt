@@ -1,0 +1,377 @@
+//! The steps of unification.
+
+ghost use Rattle.std.specs.Prelude.{◌≡◌, ◌++◌, IfOk};
+ghost use Rattle.isa_unify.specs.Spines.{head_of, args_of, distinct_bounds};
+ghost use Rattle.isa_unify.specs.Steps.{taken, prune};
+ghost use Rattle.isa_unify.specs.Unification.{agreeing, assigned, renewed, after_new, with_first, both_become, solve, solve_same, solve_two, solve_unknowns, flexible_step, after_types, front_step, parts_at, unify_step, unified};
+
+use crate::clashing::unified_types;
+use crate::equation::{Binders, Equation};
+use crate::filling::{filled_state, retyped_state};
+use crate::numbers::Numbers;
+use crate::parts::parts_at;
+use crate::places::{Pattern, first_place, shared_of};
+use crate::progress::{Answer, Parts, Progress, State, Verdict};
+use crate::abstractions::{abstracted, over, range_behind};
+use crate::spines::{args_of, distinct_bounds, head_of};
+use isa_terms::{Term, TermEntries, TermEntry, TermNode};
+use std::alloc::{AllocError, Global};
+
+/// The unknown of the pattern with its term.
+fn entry_of(solved: &Pattern<'_>, term: Term) -> Result<TermEntry, AllocError>
+    ensures { IfOk result (λ e. e ≡ record { name = solved.now.name.now; number = solved.now.number; typ = solved.now.typ.now; term = term }) }
+{
+    Ok(TermEntry {
+        name: solved.name.copy()?,
+        number: solved.number,
+        typ: solved.typ.copy()?,
+        term,
+    })
+}
+
+/// The unknown becomes the term.
+fn assigned(
+    alloc: Global,
+    state: State,
+    solved: &Pattern<'_>,
+    term: Term,
+) -> Result<State, AllocError>
+    ensures { IfOk result (λ s. s ≡ assigned state solved.now.name.now solved.now.number solved.now.typ.now term) }
+{
+    let mut entries = TermEntries::new(alloc);
+    entries.push(entry_of(solved, term)?)?;
+    filled_state(alloc, entries.as_slice(), state)
+}
+
+/// The unknown becomes the new one of that number over the variables that it keeps.
+fn renewed(
+    alloc: Global,
+    state: State,
+    binders: &Binders,
+    solved: &Pattern<'_>,
+    new: u32,
+    kept: &[u32],
+) -> Result<State, AllocError>
+    ensures { IfOk result (λ s. s ≡ renewed state binders.now solved.now.name.now solved.now.number solved.now.typ.now solved.now.variables.now new kept.now) }
+{
+    let range = range_behind(solved.variables, solved.typ);
+    let unknown = over(alloc, binders, solved.name, new, kept, range)?;
+    let term = abstracted(alloc, binders, solved.variables, &unknown)?;
+    assigned(alloc, state, solved, term)
+}
+
+/// The state after the number of a new unknown was taken.
+fn after_new(state: State) -> Result<State, AllocError>
+    ensures { IfOk result (λ s. s ≡ after_new state) }
+{
+    let State {
+        equations,
+        types,
+        terms,
+        next,
+        left,
+    } = state;
+    Ok(State {
+        equations,
+        types,
+        terms,
+        next: next.checked_add(1).ok_or(AllocError)?,
+        left: left.saturating_sub(1),
+    })
+}
+
+/// The state with the equation before the others.
+fn with_first(state: State, equation: &Equation) -> Result<State, AllocError>
+    ensures { IfOk result (λ s. s ≡ with_first equation.now state) }
+{
+    let State {
+        mut equations,
+        types,
+        terms,
+        next,
+        left,
+    } = state;
+    equations.put_first(equation.copy()?)?;
+    Ok(State {
+        equations,
+        types,
+        terms,
+        next,
+        left,
+    })
+}
+
+/// An unknown of the term loses variables, and the equation comes again.
+fn prune(
+    alloc: Global,
+    state: State,
+    equation: &Equation,
+    binders: &Binders,
+    pruned: &Pattern<'_>,
+    kept: &[u32],
+) -> Result<Progress, AllocError>
+    ensures { IfOk result (λ p. p ≡ taken (prune state equation.now binders.now pruned.now.name.now pruned.now.number pruned.now.typ.now pruned.now.variables.now kept.now)) }
+{
+    if state.left == 0 {
+        return Ok(Progress::Ended(Answer::Outside));
+    }
+    let new = state.next;
+    let state = with_first(after_new(state)?, equation)?;
+    Ok(Progress::Going(renewed(alloc, state, binders, pruned, new, kept)?))
+}
+
+/// An unknown on variables against a rigid term.
+fn solve(
+    alloc: Global,
+    state: State,
+    equation: &Equation,
+    solved: &Pattern<'_>,
+    t: &Term,
+) -> Result<Progress, AllocError>
+    ensures { IfOk result (λ p. p ≡ taken (solve state equation.now solved.now.name.now solved.now.number solved.now.typ.now solved.now.variables.now t.now)) }
+{
+    match first_place(alloc, solved, 0, &equation.binders, t)? {
+        Verdict::Fine => {
+            let term = abstracted(alloc, &equation.binders, solved.variables, t)?;
+            Ok(Progress::Going(assigned(alloc, state, solved, term)?))
+        }
+        Verdict::Refused => Ok(Progress::Ended(Answer::No)),
+        Verdict::Strays => Ok(Progress::Ended(Answer::Outside)),
+        Verdict::Prunes(name, number, typ, binders, variables, kept) => {
+            let pruned = Pattern {
+                name: &name,
+                number,
+                typ: &typ,
+                variables: variables.as_slice(),
+            };
+            prune(alloc, state, equation, &binders, &pruned, kept.as_slice())
+        }
+    }
+}
+
+/// `done` with the variables at the places where both lists agree behind it.
+fn agreeing(left: &[u32], right: &[u32], mut done: Numbers) -> Result<Numbers, AllocError>
+    ensures { IfOk result (λ ns. ns ≡ done ++ agreeing left.now right.now) }
+{
+    match (left.split_first(), right.split_first()) {
+        (Some((first, rest)), Some((other, others))) => {
+            if *first == *other {
+                done.push(*first)?;
+            }
+            agreeing(rest, others, done)
+        }
+        _ => Ok(done),
+    }
+}
+
+/// An unknown on variables against itself on others.
+fn solve_same(
+    alloc: Global,
+    state: State,
+    equation: &Equation,
+    solved: &Pattern<'_>,
+    others: &[u32],
+) -> Result<Progress, AllocError>
+    ensures { IfOk result (λ p. p ≡ taken (solve_same state equation.now solved.now.name.now solved.now.number solved.now.typ.now solved.now.variables.now others.now)) }
+{
+    let kept = agreeing(solved.variables, others, Numbers::new(alloc))?;
+    if kept.len() == solved.variables.len() {
+        return Ok(Progress::Going(state));
+    }
+    if state.left == 0 {
+        return Ok(Progress::Ended(Answer::Outside));
+    }
+    let new = state.next;
+    let state = after_new(state)?;
+    Ok(Progress::Going(renewed(
+        alloc,
+        state,
+        &equation.binders,
+        solved,
+        new,
+        kept.as_slice(),
+    )?))
+}
+
+/// Two unknowns become abstractions of one term.
+fn both_become(
+    alloc: Global,
+    state: State,
+    equation: &Equation,
+    left: &Pattern<'_>,
+    right: &Pattern<'_>,
+    shared: &Term,
+) -> Result<State, AllocError>
+    ensures { IfOk result (λ s. s ≡ both_become state equation.now left.now.name.now left.now.number left.now.typ.now left.now.variables.now right.now.name.now right.now.number right.now.typ.now right.now.variables.now shared.now) }
+{
+    let binders = &equation.binders;
+    let mut entries = TermEntries::new(alloc);
+    entries.push(entry_of(left, abstracted(alloc, binders, left.variables, shared)?)?)?;
+    entries.push(entry_of(right, abstracted(alloc, binders, right.variables, shared)?)?)?;
+    filled_state(alloc, entries.as_slice(), state)
+}
+
+/// An unknown on variables against another one.
+fn solve_two(
+    alloc: Global,
+    state: State,
+    equation: &Equation,
+    left: &Pattern<'_>,
+    right: &Pattern<'_>,
+) -> Result<Progress, AllocError>
+    ensures { IfOk result (λ p. p ≡ taken (solve_two state equation.now left.now.name.now left.now.number left.now.typ.now left.now.variables.now right.now.name.now right.now.number right.now.typ.now right.now.variables.now)) }
+{
+    if state.left == 0 {
+        return Ok(Progress::Ended(Answer::Outside));
+    }
+    let new = state.next;
+    let kept = shared_of(alloc, right.variables, left.variables)?;
+    let range = range_behind(left.variables, left.typ);
+    let shared = over(
+        alloc,
+        &equation.binders,
+        left.name,
+        new,
+        kept.as_slice(),
+        range,
+    )?;
+    let state = after_new(state)?;
+    Ok(Progress::Going(both_become(alloc, state, equation, left, right, &shared)?))
+}
+
+/// Two unknowns on variables.
+fn solve_unknowns(
+    alloc: Global,
+    state: State,
+    equation: &Equation,
+    left: &Pattern<'_>,
+    right: &Pattern<'_>,
+) -> Result<Progress, AllocError>
+    ensures { IfOk result (λ p. p ≡ taken (solve_unknowns state equation.now left.now.name.now left.now.number left.now.typ.now left.now.variables.now right.now.name.now right.now.number right.now.typ.now right.now.variables.now)) }
+{
+    if left.name.same(right.name) && left.number == right.number {
+        solve_same(alloc, state, equation, left, right.variables)
+    } else {
+        solve_two(alloc, state, equation, left, right)
+    }
+}
+
+/// The variables to which the head of the term is applied, where they are distinct.
+fn variables_of(alloc: Global, t: &Term) -> Result<Option<Numbers>, AllocError>
+    ensures { IfOk result (λ ns. ns ≡ distinct_bounds (args_of t.now)) }
+{
+    let args = args_of(alloc, t)?;
+    distinct_bounds(alloc, args.as_slice())
+}
+
+/// An equation with a flexible side.
+fn flexible_step(alloc: Global, state: State, equation: &Equation) -> Result<Progress, AllocError>
+    ensures { IfOk result (λ p. p ≡ taken (flexible_step state equation.now (head_of equation.now.left) (head_of equation.now.right))) }
+{
+    match (
+        head_of(&equation.left).view(),
+        head_of(&equation.right).view(),
+    ) {
+        (TermNode::Unknown(name, number, typ), TermNode::Unknown(other, count, kind)) => {
+            let Some(left) = variables_of(alloc, &equation.left)? else {
+                return Ok(Progress::Ended(Answer::Outside));
+            };
+            let Some(right) = variables_of(alloc, &equation.right)? else {
+                return Ok(Progress::Ended(Answer::Outside));
+            };
+            let left = Pattern {
+                name,
+                number: *number,
+                typ,
+                variables: left.as_slice(),
+            };
+            let right = Pattern {
+                name: other,
+                number: *count,
+                typ: kind,
+                variables: right.as_slice(),
+            };
+            solve_unknowns(alloc, state, equation, &left, &right)
+        }
+        (TermNode::Unknown(name, number, typ), _) => {
+            let Some(variables) = variables_of(alloc, &equation.left)? else {
+                return Ok(Progress::Ended(Answer::Outside));
+            };
+            let solved = Pattern {
+                name,
+                number: *number,
+                typ,
+                variables: variables.as_slice(),
+            };
+            solve(alloc, state, equation, &solved, &equation.right)
+        }
+        (_, TermNode::Unknown(name, number, typ)) => {
+            let Some(variables) = variables_of(alloc, &equation.right)? else {
+                return Ok(Progress::Ended(Answer::Outside));
+            };
+            let solved = Pattern {
+                name,
+                number: *number,
+                typ,
+                variables: variables.as_slice(),
+            };
+            solve(alloc, state, equation, &solved, &equation.left)
+        }
+        _ => Ok(Progress::Ended(Answer::No)),
+    }
+}
+
+/// The equation before those of the state.
+fn front_step(alloc: Global, mut state: State, equation: &Equation) -> Result<Progress, AllocError>
+    ensures { IfOk result (λ p. p ≡ taken (front_step state equation.now (parts_at equation.now.binders equation.now.left equation.now.right))) }
+{
+    match parts_at(alloc, &equation.binders, &equation.left, &equation.right)? {
+        Parts::Flexible => flexible_step(alloc, state, equation),
+        Parts::Clash => Ok(Progress::Ended(Answer::No)),
+        Parts::Into(parts) => {
+            state.equations.put_all_first(parts)?;
+            Ok(Progress::Going(state))
+        }
+        Parts::Heads(left, right, parts) => {
+            state.equations.put_all_first(parts)?;
+            match unified_types(alloc, left, right)? {
+                None => Ok(Progress::Ended(Answer::No)),
+                Some(types) => Ok(Progress::Going(retyped_state(alloc, types.as_slice(), state)?)),
+            }
+        }
+    }
+}
+
+/// Takes the first equation, until none is left.
+#[tactic(auto, unfolding(crate::specs::Unification::unify_step))]
+fn advance(alloc: Global, mut state: State) -> Result<Progress, AllocError>
+    ensures { IfOk result (λ p. p ≡ taken (unify_step state)) }
+{
+    match state.equations.take_first() {
+        Some(equation) => front_step(alloc, state, &equation),
+        None => {
+            let State {
+                equations: _,
+                types,
+                terms,
+                next,
+                left: _,
+            } = state;
+            Ok(Progress::Ended(Answer::Yes(types, terms, next)))
+        }
+    }
+}
+
+/// The end of the steps.
+#[tactic(auto, using(crate::proofs::Loops::step_same, crate::proofs::Loops::step_falls, crate::proofs::Loops::step_ends))]
+pub fn unified(alloc: Global, start: State) -> Result<Answer, AllocError>
+    ensures { IfOk result (λ a. a ≡ unified start) }
+{
+    let mut state = start;
+    'steps: loop {
+        match advance(alloc, state)? {
+            Progress::Going(next) => state = next,
+            Progress::Ended(answer) => return Ok(answer),
+        }
+    }
+}
