@@ -20,4 +20,5 @@ pub mod Solutions
 pub mod PatternMatches
 pub mod PatternComplete
 pub mod MatchAnswers
+pub mod AllMatches
 pub mod FlexibleSteps

@@ -22,6 +22,7 @@ mod tests;
 mod types;
 mod unification;
 
+pub use matching::{match_pattern, match_patterns};
 pub use fresh::Fresh;
 pub use laws::unification_ends;
 pub use matching::match_pattern;
