@@ -2,6 +2,7 @@ pub mod Descent
 pub mod Tests
 pub mod TypeInstances
 pub mod TypesUnify
+pub mod Resolved
 pub mod Stacks
 pub mod TypeMatches
 pub mod Unknowns
@@ -19,4 +20,5 @@ pub mod Solutions
 pub mod PatternMatches
 pub mod PatternComplete
 pub mod MatchAnswers
+pub mod AllMatches
 pub mod FlexibleSteps

@@ -20,7 +20,7 @@ use Rattle.isa_conversion.proofs.Instances.{inst_typed}
 use Rattle.isa_conversion.proofs.Heads.{IsRigid, one_type}
 use Rattle.isa_conversion.proofs.Unique.{conv_norm}
 use Rattle.isa_unify.specs.TypeUnification.{ty_has}
-use Rattle.isa_unify.specs.Matching.{Flexible, flexible, applied, matched, ty_matched, has_unknown, has_type_unknown, closed_type, match_of, IsAsked, IsMatch, DoesAs, IsTheMatch, ◌>>=◌}
+use Rattle.isa_unify.specs.Matching.{Flexible, flexible, applied, matched, ty_matched, has_unknown, has_type_unknown, closed_type, match_from, match_of, IsAsked, IsMatch, DoesAs, IsTheMatch, ◌>>=◌}
 use Rattle.isa_unify.proofs.Tests.{both_true, and_true, or_left, or_right, either_true, neither_true, same_test, some_same, value_of}
 use Rattle.isa_unify.proofs.TypeMatches.{TypesWithin, types_within_self, Fit, ty_finds, ty_completes}
 use Rattle.isa_unify.proofs.Flexible.{flexible_app, has_number, are_distinct, IsPattern}
@@ -149,7 +149,7 @@ type_has (TApp {G} {S} {T} {f} {a} d e) x i h =
     go (inl k) = inl (or_left (has_type_unknown x i f) (has_type_unknown x i a) k)
     go (inr k) = inr k
 
-closed_type_has : {t : Tm} {T : Ty} → Typed [] t T → (x : List ℕ) (i : ℕ) → ty_has x i T ≡ true → has_type_unknown x i t ≡ true
+pub closed_type_has : {t : Tm} {T : Ty} → Typed [] t T → (x : List ℕ) (i : ℕ) → ty_has x i T ≡ true → has_type_unknown x i t ≡ true
 closed_type_has {t} d x i h = go (type_has d x i h)
   where
     go : (has_type_unknown x i t ≡ true) ⊎ (false ≡ true) → has_type_unknown x i t ≡ true
@@ -163,10 +163,10 @@ nothing = record { types = []; terms = [] }
 closed_is : (t : Tm) (T : Ty) → HasType t T → closed_type t ≡ Some T
 closed_is t T h = ap (λ r. elim r [ Ok T ↦ Some T | Err fault ↦ None ]) h
 
-match_steps : (p t : Tm) → (k : IsAsked p t) → match_of p t ≡ (ty_matched nothing k.pattern_type k.term_type >>= λ s. matched [] s p t)
-match_steps p t k =
-    ap (λ o. o >>= λ T. (closed_type t >>= λ U. (ty_matched nothing T U >>= λ s. matched [] s p t))) (closed_is p k.pattern_type k.pattern_typed)
-    ∙ ap (λ o. o >>= λ U. (ty_matched nothing k.pattern_type U >>= λ s. matched [] s p t)) (closed_is t k.term_type k.term_typed)
+pub from_steps : (s : Instance) (p t : Tm) → (k : IsAsked p t) → match_from s p t ≡ (ty_matched s k.pattern_type k.term_type >>= λ q. matched [] q p t)
+from_steps s p t k =
+    ap (λ o. o >>= λ T. (closed_type t >>= λ U. (ty_matched s T U >>= λ q. matched [] q p t))) (closed_is p k.pattern_type k.pattern_typed)
+    ∙ ap (λ o. o >>= λ U. (ty_matched s k.pattern_type U >>= λ q. matched [] q p t)) (closed_is t k.term_type k.term_typed)
 
 -- ---- where there is a match, it agrees with what is found
 agrees : (p t : Tm) (r : Instance) → IsAsked p t → IsMatch p t r → (q : Instance) × (match_of p t ≡ Some q) × Agrees q r
@@ -180,7 +180,7 @@ agrees p t r k m =
     let found = ty_finds k.pattern_type k.term_type nothing first.0 first.1 in
     let a : Agrees first.0 r = record { types = first.2; terms = λ x i T u h. let n : None ≡ Some u = ap (find_term x i T) (sym found.terms) ∙ h in absurd (cc) } in
     let rest = completes p t [] [] k.pattern_type k.term_type first.0 r (pattern_parts p k.pattern_normal k.pattern) k.normal dp dt tt (inr found.fit) cov m.kept a m.gives in
-    (rest.0, match_steps p t k ∙ ap (λ o. o >>= λ s. matched [] s p t) first.1 ∙ rest.1, rest.2)
+    (rest.0, from_steps nothing p t k ∙ ap (λ o. o >>= λ s. matched [] s p t) first.1 ∙ rest.1, rest.2)
 
 pub no_match : (p t : Tm) → match_of p t ≡ None → IsAsked p t → (s : Instance) → IsMatch p t s → ⊥
 no_match p t e k s m =
@@ -195,13 +195,15 @@ is_match p t q s k f h =
     let dt = typed_of_type [] t k.term_type k.term_typed in
     let types = ty_finds k.pattern_type k.term_type nothing q f in
     let found = sound p t [] [] k.pattern_type k.term_type q s (pattern_parts p k.pattern_normal k.pattern) k.normal dp dt tt (inr types.fit) h in
-    let good = found.good (subst (AllGood q.types) (sym types.terms) tt) in
-    (record {
-       types = λ x i. same_test (is_some (find_type x i s.types)) (has_type_unknown x i p) (λ e. at_types x i dp (found.only_types x i e) (types.only x i)) (found.types x i);
-       terms = λ x i T. same_test (is_some (find_term x i T s.terms)) (has_unknown x i T p) (λ e. at_terms x i T types.terms (found.only_terms x i T e)) (found.terms x i T);
-       kept = good_kept s.types s.terms good;
-       gives = conv_norm (found.gives s (types_within_self s.types) (terms_within_self s.terms)) ∙ ap bare (norm_same t k.normal);
-     }, good)
+    let good = found.good (subst (AllGood q.types) (sym types.terms) tt) in (
+      record {
+        types = λ x i. same_test (is_some (find_type x i s.types)) (has_type_unknown x i p) (λ e. at_types x i dp (found.only_types x i e) (types.only x i)) (found.types x i);
+        terms = λ x i T. same_test (is_some (find_term x i T s.terms)) (has_unknown x i T p) (λ e. at_terms x i T types.terms (found.only_terms x i T e)) (found.terms x i T);
+        kept = good_kept s.types s.terms good;
+        gives = conv_norm (found.gives s (types_within_self s.types) (terms_within_self s.terms)) ∙ ap bare (norm_same t k.normal);
+      },
+      good,
+    )
   where
     at_first : (x : List ℕ) (i : ℕ) → Typed [] p k.pattern_type → (false ≡ true) ⊎ (ty_has x i k.pattern_type ≡ true) → has_type_unknown x i p ≡ true
     at_first x i d (inl e) = absurd (cc)
@@ -215,7 +217,7 @@ is_match p t q s k f h =
     at_terms x i T n (inl e) = let c : false ≡ true = ap (λ fs. is_some (find_term x i T fs)) (sym n) ∙ e in absurd (cc)
     at_terms x i T n (inr e) = e
 
-none_of : {A : Type 0} (o : Option A) → is_some o ≡ false → o ≡ None
+pub none_of : {A : Type 0} (o : Option A) → is_some o ≡ false → o ≡ None
 none_of None h = refl
 none_of (Some u) h = absurd (cc)
 
@@ -244,4 +246,4 @@ the_match p t s w k (Some q) f h =
     }
 
 pub found_match : (p t : Tm) (s : Instance) → match_of p t ≡ Some s → IsAsked p t → IsTheMatch p t s
-found_match p t s w k = the_match p t s w k (ty_matched nothing k.pattern_type k.term_type) refl (sym (match_steps p t k) ∙ w)
+found_match p t s w k = the_match p t s w k (ty_matched nothing k.pattern_type k.term_type) refl (sym (from_steps nothing p t k) ∙ w)

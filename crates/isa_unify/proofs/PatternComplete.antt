@@ -154,11 +154,12 @@ flexible_completes p t h G D A B s r e dis n d f fits at cov kept a g =
     let applied : Conv K B (apps v.0 h.args) t = subst (λ x. Conv K B x t) (flexible_becomes r p h v.0 e v.1) whole in
     let c : Conv K i.typ v.0 u.0 = solution_only D h.args i.typ B v.0 t u.0 dis (misses_all h.args v_typed) i.spined (closed_anywhere K v_typed) applied u.1 in
     let k = conv_closed K i.typ v.0 u.0 v_typed c i.normal in
-    let o = bound_completes_term s r h u.0 v.0 (find_term h.name h.number h.typ s.terms) a v.1 k.1 refl in
-    (o.0,
-     ap (λ x. x >>= λ w. cond (is_closed 0 w) (bound_to (find_term h.name h.number h.typ s.terms) s h w) None) u.1
-     ∙ ap (λ b. cond b (bound_to (find_term h.name h.number h.typ s.terms) s h u.0) None) k.0 ∙ o.1,
-     o.2)
+    let o = bound_completes_term s r h u.0 v.0 (find_term h.name h.number h.typ s.terms) a v.1 k.1 refl in (
+      o.0,
+      ap (λ x. x >>= λ w. cond (is_closed 0 w) (bound_to (find_term h.name h.number h.typ s.terms) s h w) None) u.1
+          ∙ ap (λ b. cond b (bound_to (find_term h.name h.number h.typ s.terms) s h u.0) None) k.0 ∙ o.1,
+      o.2,
+    )
 
 unknown_completes : (x : List ℕ) (i : ℕ) (T : Ty) → Completes (Unknown x i T)
 unknown_completes x i T t G D A B s r pat n e f fits pl cov kept a g =

@@ -64,6 +64,40 @@ pub record IsTheMatch (p t : Tm) (s : Instance) : Type 0 where
   pub normal : (x : List ℕ) (i : ℕ) (T : Ty) (u : Tm) → find_term x i T s.terms ≡ Some u → IsNormal u
   pub only : (r : Instance) → IsMatch p t r → DoesAs s r
 
+-- whether the type unknown stands in one of the terms
+abbrev pub have_type_unknown : List ℕ → ℕ → List Tm → Bool
+have_type_unknown x i [] = false
+have_type_unknown x i (p ∷ ps) = has_type_unknown x i p || have_type_unknown x i ps
+
+-- whether the unknown stands in one of the terms at that type
+abbrev pub have_unknown : List ℕ → ℕ → Ty → List Tm → Bool
+have_unknown x i T [] = false
+have_unknown x i T (p ∷ ps) = has_unknown x i T p || have_unknown x i T ps
+
+-- s makes each of the patterns equal to the term at its place
+abbrev pub MakesAll : Instance → List Tm → List Tm → Type 0
+MakesAll s [] [] = Unit {0}
+MakesAll s (p ∷ ps) (t ∷ ts) = (bare (instance_of s p) ≡ bare t) × MakesAll s ps ts
+MakesAll s _ _ = ⊥
+
+-- the same of a list of patterns and one of terms: one instance serves all
+pub record AreMatched (ps ts : List Tm) (s : Instance) : Type 0 where
+  pub types : (x : List ℕ) (i : ℕ) → is_some (find_type x i s.types) ≡ have_type_unknown x i ps
+  pub terms : (x : List ℕ) (i : ℕ) (T : Ty) → is_some (find_term x i T s.terms) ≡ have_unknown x i T ps
+  pub kept : IsKept s.types s.terms
+  pub gives : MakesAll s ps ts
+
+abbrev pub AreAsked : List Tm → List Tm → Type 0
+AreAsked [] [] = Unit {0}
+AreAsked (p ∷ ps) (t ∷ ts) = IsAsked p t × AreAsked ps ts
+AreAsked _ _ = Unit {0}
+
+-- s is the one match of the patterns with the terms, with terms in normal form
+pub record AllMatch (ps ts : List Tm) (s : Instance) : Type 0 where
+  pub are : AreMatched ps ts s
+  pub normal : (x : List ℕ) (i : ℕ) (T : Ty) (u : Tm) → find_term x i T s.terms ≡ Some u → IsNormal u
+  pub only : (r : Instance) → AreMatched ps ts r → DoesAs s r
+
 -- s and the types that make T to U
 abbrev mutual
   pub ty_matched : Instance → Ty → Ty → Option Instance
@@ -173,10 +207,26 @@ matched G s _ _ = None
 abbrev pub closed_type : Tm → Option Ty
 closed_type t = elim (type_at [] t) [ Ok T ↦ Some T | Err fault ↦ None ]
 
--- The match of the pattern p with t, if there is one: the types first, then the places from left to right.
-abbrev pub match_of : Tm → Tm → Option Instance
-match_of p t = do
+-- s and what makes the pattern p equal to t: the types first, then the places from left to right
+abbrev pub match_from : Instance → Tm → Tm → Option Instance
+match_from s p t = do
   T ← closed_type p
   U ← closed_type t
-  s ← ty_matched (record { types = []; terms = [] }) T U
-  matched [] s p t
+  r ← ty_matched s T U
+  matched [] r p t
+
+-- The match of the pattern p with t, if there is one.
+abbrev pub match_of : Tm → Tm → Option Instance
+match_of p t = match_from (record { types = []; terms = [] }) p t
+
+-- s and what makes each of the patterns equal to the term that stands at its place in the other list
+abbrev pub all_from : Instance → List Tm → List Tm → Option Instance
+all_from s [] [] = Some s
+all_from s (p ∷ ps) (t ∷ ts) = do
+  r ← match_from s p t
+  all_from r ps ts
+all_from s _ _ = None
+
+-- The match of the patterns with as many terms, if there is one: one instance serves all.
+abbrev pub match_all_of : List Tm → List Tm → Option Instance
+match_all_of ps ts = all_from (record { types = []; terms = [] }) ps ts

@@ -1,7 +1,7 @@
 -- Stacks of equations of types, the top one last.
 use Rattle.std.specs.Prelude.{◌≡◌, ℕ, Bool, true, false, List, [], ◌∷◌, ◌++◌, map, reverse, Option, ◌⊎◌, None, Some, option_map}
 use Rattle.isa_terms.specs.Types.{Ty}
-use Rattle.isa_terms.specs.Instance.{set_type}
+use Rattle.isa_terms.specs.Instance.{inst_ty, set_type}
 use Rattle.isa_terms.specs.declared.inst.TypeEntry.{TypeEntry}
 use Rattle.isa_unify.specs.declared.types.TypePair.{TypePair}
 use Rattle.isa_unify.specs.Descent.{Done, Lighter, Solved}
@@ -33,3 +33,15 @@ Advances false s t = type_step s ≡ Done None
 abbrev pub set_all : List TypeEntry → List TypeEntry → List TypeEntry
 set_all s [] = s
 set_all s (e ∷ es) = set_type e (set_all s es)
+
+-- an entry before those that were found later, its type under them
+abbrev pub found_before : TypeEntry → List TypeEntry → List TypeEntry
+found_before e late = record e { typ = inst_ty late e.typ } ∷ late
+
+-- the entries in the order in which they were found, each with its type under those that came later, here before the late ones
+abbrev pub resolved_before : List TypeEntry → List TypeEntry → List TypeEntry
+resolved_before late [] = late
+resolved_before late (e ∷ es) = found_before e (resolved_before late es)
+
+abbrev pub resolved : List TypeEntry → List TypeEntry
+resolved es = resolved_before [] es

@@ -17,9 +17,12 @@ mod places;
 mod progress;
 mod spines;
 mod steps;
+#[cfg(test)]
+mod tests;
 mod types;
 mod unification;
 
+pub use matching::{match_pattern, match_patterns};
 pub use fresh::Fresh;
 pub use laws::unification_ends;
 pub use matching::match_pattern;

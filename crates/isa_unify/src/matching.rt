@@ -5,7 +5,7 @@ ghost use Rattle.isa_terms.specs.Types.{tys_of};
 ghost use Rattle.isa_terms.specs.Instance.{Instance, find_term};
 ghost use Rattle.isa_terms.specs.Terms.{App, Bound};
 ghost use Rattle.isa_terms.specs.Replace.{raise};
-ghost use Rattle.isa_unify.specs.Matching.{ty_matched, tys_matched, flexible, bound_to, solved, typed, matched, closed_type, match_of, IsAsked, IsMatch, IsTheMatch};
+ghost use Rattle.isa_unify.specs.Matching.{ty_matched, tys_matched, flexible, bound_to, solved, typed, matched, closed_type, match_from, match_of, all_from, match_all_of, IsAsked, IsMatch, IsTheMatch, AreAsked, AreMatched, AllMatch};
 ghost use Rattle.isa_unify.specs.BinderLists.{binders_in, flexible_of};
 
 use crate::binders::{Binders, is_closed, solution};
@@ -181,21 +181,64 @@ fn closed_type(alloc: Global, t: &Term) -> Result<Option<Typ>, AllocError>
     }
 }
 
+/// Adds what makes the pattern equal to the term, where it can be had, its types first.
+fn extend_by(
+    alloc: Global,
+    inst: &mut Inst,
+    pattern: &Term,
+    term: &Term,
+) -> Result<bool, AllocError>
+    ensures { IfOk result (λ yes. match_from inst.old pattern.now term.now ≡ cond yes (Some inst.new) None) }
+{
+    let Some(typ) = closed_type(alloc, pattern)? else {
+        return Ok(false);
+    };
+    let Some(wanted) = closed_type(alloc, term)? else {
+        return Ok(false);
+    };
+    Ok(
+        extend_types(alloc, inst, &typ, &wanted)?
+            && extend(alloc, &Binders::Outermost, inst, pattern, term)?,
+    )
+}
+
+/// Adds what makes each pattern equal to the term at its place, where it can be had.
+fn extend_by_all(
+    alloc: Global,
+    inst: &mut Inst,
+    patterns: &[Term],
+    terms: &[Term],
+) -> Result<bool, AllocError>
+    ensures { IfOk result (λ yes. all_from inst.old patterns.now terms.now ≡ cond yes (Some inst.new) None) }
+{
+    match (patterns.split_first(), terms.split_first()) {
+        (None, None) => Ok(true),
+        (Some((pattern, rest)), Some((term, more))) => Ok(
+            extend_by(alloc, inst, pattern, term)? && extend_by_all(alloc, inst, rest, more)?,
+        ),
+        _ => Ok(false),
+    }
+}
+
 /// The match of the pattern with the term, if there is one.
 fn find_match(alloc: Global, pattern: &Term, term: &Term) -> Result<Option<Inst>, AllocError>
     ensures { IfOk result (λ found. found ≡ match_of pattern.now term.now) }
 {
-    let Some(typ) = closed_type(alloc, pattern)? else {
-        return Ok(None);
-    };
-    let Some(wanted) = closed_type(alloc, term)? else {
-        return Ok(None);
-    };
     let mut inst = Inst::new(alloc);
-    if !extend_types(alloc, &mut inst, &typ, &wanted)? {
-        return Ok(None);
-    }
-    let found = extend(alloc, &Binders::Outermost, &mut inst, pattern, term)?;
+    let found = extend_by(alloc, &mut inst, pattern, term)?;
+    Ok(found.then_some(inst))
+}
+
+/// The match of the patterns with the terms, if there is one.
+fn find_match_of_all(
+    alloc: Global,
+    patterns: &[Term],
+    terms: &[Term],
+) -> Result<Option<Inst>, AllocError>
+    ensures { IfOk result (λ found. found ≡ match_all_of patterns.now terms.now) }
+{
+    let mut inst = Inst::new(alloc);
+    let found = extend_by_all(alloc, &mut inst, patterns, terms)?;
     Ok(found.then_some(inst))
 }
 
@@ -205,14 +248,26 @@ fn find_match(alloc: Global, pattern: &Term, term: &Term) -> Result<Option<Inst>
 /// form, and the one is a pattern, it is the only one, and `None` comes where there is none. A term for an unknown takes
 /// the names of the bound variables to which the unknown is applied.
 #[tactic(auto, using(crate::proofs::MatchAnswers::found_match, crate::proofs::MatchAnswers::no_match))]
-pub fn match_pattern(
-    alloc: Global,
-    pattern: &Term,
-    term: &Term,
-) -> Result<Option<Inst>, AllocError>
+pub fn match_pattern(alloc: Global, pattern: &Term, term: &Term) -> Result<Option<Inst>, AllocError>
     ensures answer { IfOk result (λ found. found ≡ match_of pattern.now term.now) }
     ensures found { IfOk result (λ found. IfSome found (λ inst. IsAsked pattern.now term.now → IsTheMatch pattern.now term.now inst)) }
     ensures none { IfOk result (λ found. IfNone found (IsAsked pattern.now term.now → (s : Instance) → IsMatch pattern.now term.now s → ⊥)) }
 {
     find_match(alloc, pattern, term)
+}
+
+/// The one instance of the patterns' unknowns and type unknowns that makes each pattern equal to the term at its place, if there is one.
+///
+/// As `match_pattern`, for lists. There is none where the lists are not equally long.
+#[tactic(auto, using(crate::proofs::AllMatches::found_all, crate::proofs::AllMatches::none_of_all))]
+pub fn match_patterns(
+    alloc: Global,
+    patterns: &[Term],
+    terms: &[Term],
+) -> Result<Option<Inst>, AllocError>
+    ensures answer { IfOk result (λ found. found ≡ match_all_of patterns.now terms.now) }
+    ensures found { IfOk result (λ found. IfSome found (λ inst. AreAsked patterns.now terms.now → AllMatch patterns.now terms.now inst)) }
+    ensures none { IfOk result (λ found. IfNone found (AreAsked patterns.now terms.now → (s : Instance) → AreMatched patterns.now terms.now s → ⊥)) }
+{
+    find_match_of_all(alloc, patterns, terms)
 }

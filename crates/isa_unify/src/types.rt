@@ -4,9 +4,9 @@ ghost use Rattle.std.specs.Prelude.{◌≡◌, ◌∷◌, [], List, IfOk, IfSome
 ghost use Rattle.isa_terms.specs.Instance.{inst_ty};
 ghost use Rattle.isa_terms.specs.declared.inst.TypeEntry.{TypeEntry};
 ghost use Rattle.isa_unify.specs.TypeUnification.{IsTypeUnifier};
-ghost use Rattle.isa_unify.specs.TypeStacks.{set_all};
+ghost use Rattle.isa_unify.specs.TypeStacks.{set_all, resolved};
 ghost use Rattle.isa_terms.specs.Types.{tys_of};
-ghost use Rattle.isa_unify.specs.TypeUnification.{ty_has, tys_have, one, followed_by, equations_under, paired, type_state, unify_typs};
+ghost use Rattle.isa_unify.specs.TypeUnification.{ty_has, tys_have, one, equations_under, paired, type_state, unify_typs};
 ghost use Rattle.isa_unify.specs.TypeStacks.{pair_of, stack_of, Pushes, Solves, Advances};
 
 use isa_terms::{Inst, Name, Typ, TypNode, TypeEntry, inst_typ, same_typ};
@@ -76,33 +76,8 @@ fn replace_pairs(
     Ok(replaced)
 }
 
-/// The first instance, and then the second.
-fn follow(
-    alloc: Global,
-    first: &[TypeEntry],
-    second: &[TypeEntry],
-) -> Result<Vec<TypeEntry>, AllocError>
-    ensures { IfOk result (λ both. both.items ≡ followed_by first.now second.now) }
-{
-    let mut both = Vec::new(alloc);
-    for entry in first {
-        both.push(TypeEntry {
-            name: entry.name.copy()?,
-            number: entry.number,
-            typ: inst_typ(alloc, second, &entry.typ)?,
-        })?;
-    }
-    for entry in second {
-        both.push(TypeEntry {
-            name: entry.name.copy()?,
-            number: entry.number,
-            typ: entry.typ.copy()?,
-        })?;
-    }
-    Ok(both)
-}
-
-/// Solves a type unknown, unless it stands in the type.
+/// Solves a type unknown, unless it stands in the type. What was found before stays as it is: it is looked up at the end.
+#[tactic(auto, using(crate::proofs::Resolved::resolved_last))]
 fn solve(
     alloc: Global,
     work: &mut Vec<TypePair>,
@@ -111,14 +86,18 @@ fn solve(
     number: u32,
     by: &Typ,
 ) -> Result<bool, AllocError>
-    ensures { IfOk result (λ going. Solves going name.now number by.now (type_state (stack_of work.old.items) solution.old.items) (type_state (stack_of work.new.items) solution.new.items)) }
+    ensures { IfOk result (λ going. Solves going name.now number by.now (type_state (stack_of work.old.items) (resolved solution.old.items)) (type_state (stack_of work.new.items) (resolved solution.new.items))) }
 {
     if stands(name, number, by) {
         return Ok(false);
     }
     let entry = one_entry(alloc, name, number, by)?;
     *work = replace_pairs(alloc, work, &entry)?;
-    *solution = follow(alloc, solution, &entry)?;
+    solution.push(TypeEntry {
+        name: name.copy()?,
+        number,
+        typ: by.copy()?,
+    })?;
     Ok(true)
 }
 
@@ -150,7 +129,7 @@ fn advance(
     solution: &mut Vec<TypeEntry>,
     pair: &TypePair,
 ) -> Result<bool, AllocError>
-    ensures { IfOk result (λ going. Advances going (type_state (pair_of pair.now ∷ stack_of work.old.items) solution.old.items) (type_state (stack_of work.new.items) solution.new.items)) }
+    ensures { IfOk result (λ going. Advances going (type_state (pair_of pair.now ∷ stack_of work.old.items) (resolved solution.old.items)) (type_state (stack_of work.new.items) (resolved solution.new.items))) }
 {
     match (pair.left.view(), pair.right.view()) {
         (TypNode::Unknown(name, number), _) => {
@@ -171,6 +150,20 @@ fn advance(
     }
 }
 
+/// The entries, each with its type under those that were found later.
+#[tactic(auto, using(crate::proofs::Resolved::before_last))]
+fn resolve(alloc: Global, mut entries: Vec<TypeEntry>) -> Result<Vec<TypeEntry>, AllocError>
+    ensures { IfOk result (λ found. found.items ≡ resolved entries.items) }
+{
+    let mut found = Vec::new(alloc);
+    while let Some(entry) = entries.pop() {
+        let typ = inst_typ(alloc, &found, &entry.typ)?;
+        let TypeEntry { name, number, .. } = entry;
+        found.insert(0, TypeEntry { name, number, typ })?;
+    }
+    Ok(found)
+}
+
 /// A most general unifier of the pairs, taken from the last one to the first, if there is one.
 pub fn unify_type_pairs(
     alloc: Global,
@@ -184,7 +177,7 @@ pub fn unify_type_pairs(
             return Ok(None);
         }
     }
-    Ok(Some(solution))
+    Ok(Some(resolve(alloc, solution)?))
 }
 
 /// The entries as an instance without terms. Of two for one type unknown the first counts.
