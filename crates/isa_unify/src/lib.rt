@@ -21,10 +21,11 @@ mod steps;
 mod tests;
 mod types;
 mod unification;
+#[cfg(test)]
+mod unify_tests;
 
-pub use matching::{match_pattern, match_patterns};
 pub use fresh::Fresh;
 pub use laws::unification_ends;
-pub use matching::match_pattern;
+pub use matching::{match_pattern, match_patterns};
 pub use types::{TypePair, unify_type_pairs, unify_types};
 pub use unification::{TermPair, Unified, unify, unify_pairs};
