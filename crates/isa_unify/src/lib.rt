@@ -25,6 +25,5 @@ mod unification;
 pub use matching::{match_pattern, match_patterns};
 pub use fresh::Fresh;
 pub use laws::unification_ends;
-pub use matching::match_pattern;
 pub use types::{TypePair, unify_type_pairs, unify_types};
 pub use unification::{TermPair, Unified, unify, unify_pairs};
