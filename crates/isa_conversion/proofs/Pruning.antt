@@ -33,7 +33,7 @@ among_or_not j (n ∷ ns) = choice (nat_eq j n) refl (among_or_not j ns)
     choice false e (inr h) = let ne : j ≢ n = grind (arith, nat_tests) in inr (λ g. elim g [ inl q ↦ ne q | inr k ↦ h k ])
 
 -- ---- loose variables of a closed function at variables
-on_bounds_misses : (v : Tm) (ns : List ℕ) (j : ℕ) → loose j v ≡ false → (Among j ns → ⊥) → loose j (on_bounds v ns) ≡ false
+pub on_bounds_misses : (v : Tm) (ns : List ℕ) (j : ℕ) → loose j v ≡ false → (Among j ns → ⊥) → loose j (on_bounds v ns) ≡ false
 on_bounds_misses v [] j l h = l
 on_bounds_misses v (n ∷ ns) j l h =
     let ne : nat_eq n j ≡ false = choice (nat_eq n j) refl in
@@ -101,7 +101,7 @@ pub rename_on_bounds : (r : ℕ → ℕ) (v : Tm) (ns : List ℕ) → rename r (
 rename_on_bounds r v [] = refl
 rename_on_bounds r v (n ∷ ns) = rename_on_bounds r (App v (Bound n)) ns
 
-taking_absent : (x y : ℕ) (xs ys : List ℕ) (ns : List ℕ) → Absent x ns → map (taking (x ∷ xs) (y ∷ ys)) ns ≡ map (taking xs ys) ns
+pub taking_absent : (x y : ℕ) (xs ys : List ℕ) (ns : List ℕ) → Absent x ns → map (taking (x ∷ xs) (y ∷ ys)) ns ≡ map (taking xs ys) ns
 taking_absent x y xs ys [] a = refl
 taking_absent x y xs ys (n ∷ ns) a = λ i. cond (a.0 i) y (taking xs ys n) ∷ taking_absent x y xs ys ns a.1 i
 
@@ -114,7 +114,7 @@ taking_all Y (x ∷ xs) (y ∷ ys) d p =
     let r = taking_absent x y xs ys xs d.0 ∙ taking_all Y xs ys d.1 p.1 in
     λ i. cond (t i) y (taking xs ys x) ∷ r i
 
-taking_known : (N : ℕ → List ℕ) (Y : ℕ → Ty) (G : List Ty) (xs ys : List ℕ) → AreKnown N Y G xs → AreKnown N Y G ys → PairTypes Y xs ys → IsRenaming (taking xs ys) G G
+pub taking_known : (N : ℕ → List ℕ) (Y : ℕ → Ty) (G : List Ty) (xs ys : List ℕ) → AreKnown N Y G xs → AreKnown N Y G ys → PairTypes Y xs ys → IsRenaming (taking xs ys) G G
 taking_known N Y G [] [] k l p j T e = e
 taking_known N Y G [] (y ∷ ys) k l p j T e = e
 taking_known N Y G (x ∷ xs) [] k l p j T e = e

@@ -107,13 +107,6 @@ fn only_hyp(alloc: Global, a: &Term) -> Result<Rc<Terms>, AllocError>
     Ok(Rc::new(alloc, hyps)?)
 }
 
-/// The hypotheses without one of them.
-fn hyps_without(alloc: Global, a: &Term, hyps: &Rc<Terms>) -> Result<Rc<Terms>, AllocError>
-    ensures { IfOk result (λ r. r.value ≡ without a.now hyps.now.value) }
-{
-    Ok(Rc::new(alloc, without(alloc, a, hyps.as_slice())?)?)
-}
-
 fn has_none(terms: &Terms) -> bool
     ensures { IsTrue result ↔ (terms.now ≡ []) }
 {
@@ -121,6 +114,16 @@ fn has_none(terms: &Terms) -> bool
         None => true,
         Some(_) => false,
     }
+}
+
+/// The hypotheses without one of them.
+fn hyps_without(alloc: Global, a: &Term, hyps: &Rc<Terms>) -> Result<Rc<Terms>, AllocError>
+    ensures { IfOk result (λ r. r.value ≡ without a.now hyps.now.value) }
+{
+    if has_none(hyps) {
+        return hyps.clone();
+    }
+    Ok(Rc::new(alloc, without(alloc, a, hyps.as_slice())?)?)
 }
 
 /// Whether all of the second hypotheses are among the first.

@@ -1,5 +1,5 @@
 -- The number of arguments.
-use Rattle.std.proofs.Common.{◌≡◌, ◌+◌, List, [], ◌∷◌, length, arith}
+use Rattle.std.proofs.Common.{◌≡◌, List, [], ◌∷◌, length, arith}
 use Rattle.isa_terms.specs.Types.{Ty, tys_of}
 use Rattle.isa_terms.specs.Order.{tys_count}
 

@@ -1,8 +1,8 @@
 -- The term order is the order of lists of numbers that spell the terms.
-use Rattle.std.proofs.Common.{◌≡◌, ◌≢◌, ℕ, zero, suc, ◌+◌, ◌-◌, ◌^◌, ◌<◌, min, List, [], ◌∷◌, ◌++◌, Bool, true, false, cond, nat_eq, nat_lt, refl, sym, ap, ◌∙◌, subst, append_assoc, arith}
+use Rattle.std.proofs.Common.{◌≡◌, ℕ, suc, ◌+◌, ◌-◌, ◌^◌, ◌<◌, min, List, [], ◌∷◌, ◌++◌, refl, sym, ap, ◌∙◌, subst, append_assoc, arith}
 use Rattle.std.specs.declared.cmp.Ordering.{Ordering}
 use Rattle.std.specs.declared.cmp.Ordering.TheVariants.{Less, Equal, Greater}
-use Rattle.std.specs.Ordering.{ordering_then, nat_cmp, on, MatchOrdering}
+use Rattle.std.specs.Ordering.{ordering_then, nat_cmp, MatchOrdering}
 use Rattle.std.specs.Cmp.{IsTotalOrder}
 use Rattle.std.specs.Cmp.Lexicographic.{slice_cmp}
 use Rattle.std.proofs.lemmas.Cmp.{ranked, nat_list_cmp_total, on_total, tied_itself}
@@ -10,7 +10,7 @@ use Rattle.std.proofs.lemmas.Bool.Decides.{nat_tests}
 use Rattle.std.proofs.lemmas.List.{append-nil}
 use Rattle.isa_terms.specs.Types.{Ty, Tys, TyCon, TyFixed, TyUnknown, NoTys, MoreTys}
 use Rattle.isa_terms.specs.Terms.{Tm, Const, Free, Unknown, Bound, Abs, App, bare, tm_size}
-use Rattle.isa_terms.specs.Order.{name_cmp, is_counted, free_class, free_length, free_cmp, ty_kind, tys_count, ty_cmp, tys_cmp, head_of, arity, kind, counted_size, const_cmp, var_cmp, unknown_cmp, bound_cmp, abs_cmp, by_size, head_cmp, args_cmp, tm_cmp}
+use Rattle.isa_terms.specs.Order.{name_cmp, free_class, free_length, free_cmp, tys_count, ty_cmp, tys_cmp, head_of, arity, counted_size, const_cmp, var_cmp, unknown_cmp, bound_cmp, abs_cmp, by_size, head_cmp, args_cmp, tm_cmp}
 
 abbrev lists : List ℕ → List ℕ → Ordering
 lists x y = slice_cmp nat_cmp x y

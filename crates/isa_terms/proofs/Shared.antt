@@ -1,15 +1,15 @@
 -- Where an operation leaves a term as it is.
-use Rattle.std.proofs.Common.{◌≡◌, ◌≢◌, ℕ, zero, suc, ◌+◌, ◌-◌, ◌<◌, ◌≤◌, max, List, [], ◌∷◌, Bool, true, false, cond, not, ◌&&◌, ◌||◌, nat_eq, nat_lt, Option, Some, None, unwrap_or, is_some, refl, sym, ap, ◌∙◌, subst, arith}
+use Rattle.std.proofs.Common.{◌≡◌, ◌≢◌, ℕ, zero, suc, ◌+◌, ◌-◌, ◌<◌, ◌≤◌, List, Bool, true, false, cond, not, ◌&&◌, ◌||◌, nat_eq, nat_lt, Option, Some, None, unwrap_or, is_some, refl, ap, ◌∙◌, arith}
 use Rattle.std.proofs.lemmas.Bool.Decides.{nat_tests}
 use Rattle.isa_terms.specs.Types.{Ty, Tys, TyCon, TyFixed, TyUnknown, NoTys, MoreTys}
 use Rattle.isa_terms.specs.Terms.{Tm, Const, Free, Unknown, Bound, Abs, App}
 use Rattle.isa_terms.specs.declared.inst.TypeEntry.{TypeEntry}
 use Rattle.isa_terms.specs.declared.inst.TermEntry.{TermEntry}
 use Rattle.isa_terms.specs.Replace.{raise, put, replace}
-use Rattle.isa_terms.specs.Norm.{loose, eta, eta_at, put_normal, beta, apply, levels, norm}
-use Rattle.isa_terms.specs.Normal.{redex_at, redex}
+use Rattle.isa_terms.specs.Norm.{loose, eta, put_normal, apply, levels, norm}
+use Rattle.isa_terms.specs.Normal.{redex}
 use Rattle.isa_terms.specs.Binding.{occurs, close_at}
-use Rattle.isa_terms.specs.Instance.{find_type, find_term, inst_ty, inst_tys, inst_tm, in_ty, in_tys, in_tm}
+use Rattle.isa_terms.specs.Instance.{find_type, inst_ty, inst_tys, inst_tm, in_ty, in_tys, in_tm}
 use Rattle.isa_terms.specs.Generalize.{is_named, gen_ty, gen_tys, gen_tm, named_in_ty, named_in_tys, named_in_tm}
 use Rattle.isa_terms.specs.Order.{head_of}
 use Rattle.isa_terms.specs.Pattern.{is_unknown, is_pattern}

@@ -1,6 +1,6 @@
 -- Patterns: terms whose unknowns are applied to distinct bound variables only.
 use Rattle.std.specs.Prelude.{ℕ, Bool, true, false, ◌||◌, ◌&&◌, not, nat_eq, if◌then◌else◌}
-use Rattle.isa_terms.specs.Terms.{Tm, Const, Free, Unknown, Bound, Abs, App}
+use Rattle.isa_terms.specs.Terms.{Tm, Unknown, Bound, Abs, App}
 use Rattle.isa_terms.specs.Order.{head_of}
 
 abbrev pub is_unknown : Tm → Bool

@@ -19,10 +19,15 @@ returns-then-is_empty g c =
 pub returns : goal.returns
 returns g c = record {
   kept = Suspended c.append.new.self ∷ [];
-  keeps = (c.append.new.self, c.in_ok-again.field-0, c.in_ok-again.ensures,
-      c.in_ok-append.ensures.items ∙ ap (λ z. z ++ c.in_ok-above.above.items) (c.in_ok-push-2.ensures.items ∙ ap (λ z. z ++ Each c.in_ok-again.field-0 ∷ []) c.new-source.ensures.items)
-      ∙ ap (λ z. Each c.in_ok-again.field-0 ∷ z) c.in_ok-above.ensures.tail,
-      refl, refl);
+  keeps = (
+    c.append.new.self,
+    c.in_ok-again.field-0,
+    c.in_ok-again.ensures,
+    c.in_ok-append.ensures.items ∙ ap (λ z. z ++ c.in_ok-above.above.items) (c.in_ok-push-2.ensures.items ∙ ap (λ z. z ++ Each c.in_ok-again.field-0 ∷ []) c.new-source.ensures.items)
+        ∙ ap (λ z. Each c.in_ok-again.field-0 ∷ z) c.in_ok-above.ensures.tail,
+    refl,
+    refl,
+  );
   pushed = c.in_ok-push-4.ensures.items ∙ ap (λ z. z ++ Call c.args.todo c.args.state ∷ [])
       (c.in_ok-push-3.ensures.items ∙ ap (λ z. z ++ Suspended c.append.new.self ∷ []) (c.truncate.ensures.items ∙ ap (take c.args.at) c.in_ok-above.ensures.items ∙ take-below c.args.at c.args.frames.now.items));
 }

@@ -1,0 +1,13 @@
+// Primitives on numbers, to try the machine with.
+#![tactic(auto)]
+
+pub mod prims;
+pub mod pulled;
+pub mod run;
+
+pub use prims::{Numbers, Step};
+pub use pulled::events;
+pub use run::Run;
+
+#[cfg(test)]
+mod tests;

@@ -1,0 +1,24 @@
+// The events of an expression on a number.
+#![tactic(auto)]
+
+use crate::prims::{Numbers, Step};
+use isa_seq::{Event, Machine, Tac};
+use std::alloc::{AllocError, Global};
+
+/// At most so many events of the trace of an expression on a number, pulled one at a time.
+pub fn events(
+    alloc: Global,
+    tac: &Tac<Step>,
+    state: u64,
+    limit: usize,
+) -> Result<Vec<Event<u64>>, AllocError> {
+    let mut machine = Machine::start(alloc, &Numbers, tac, &state)?;
+    let mut events = Vec::new(alloc);
+    for _ in 0..limit {
+        let Some(event) = machine.pull(alloc, &Numbers)? else {
+            return Ok(events);
+        };
+        events.push(event)?;
+    }
+    Ok(events)
+}
