@@ -274,17 +274,17 @@ other_numbers = refl
 
 -- a table of pairs, by the letters of their answers
 
-letter : Answer → List ℕ
+pub letter : Answer → List ℕ
 letter (Yes ts fs n) = codes "Y"
 letter No = codes "N"
 letter Outside = codes "O"
 
-letters : Tm → List Tm → List ℕ
+pub letters : Tm → List Tm → List ℕ
 unfolding unify letter
 letters t [] = []
 letters t (u ∷ us) = letter (unify_two t u) ++ letters t us
 
-rights : List Tm
+pub rights : List Tm
 rights =
     h ∷
     (Abs (codes "x") i (Abs (codes "y") i (App (App h (Bound 0)) (Bound 1)))) ∷
