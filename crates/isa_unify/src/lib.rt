@@ -17,12 +17,8 @@ mod places;
 mod progress;
 mod spines;
 mod steps;
-#[cfg(test)]
-mod tests;
 mod types;
 mod unification;
-#[cfg(test)]
-mod unify_tests;
 
 pub use fresh::Fresh;
 pub use laws::{no_is_right, unification_ends};

@@ -1,9 +1,9 @@
 //! Tests of unification of terms.
 
-use crate::{Fresh, Unified, unify};
 use isa_terms::{
     Inst, Name, Term, TermNode, Terms, Typ, TypNode, Typs, function_type, instantiate, same_term,
 };
+use isa_unify::{Fresh, Unified, unify};
 use std::alloc::Global;
 use std::test::Fail;
 
