@@ -6,6 +6,8 @@ use Rattle.isa_terms.specs.Equal.{tm_eq}
 use Rattle.isa_terms.specs.Sets.{has, missing, joined, without}
 use Rattle.isa_terms.specs.Typing.{HasType}
 use Rattle.isa_kernel.specs.Logic.{prop, imp, IsProposition}
+use Rattle.isa_kernel.specs.declared.axioms.NamedProp.{NamedProp}
+use Rattle.isa_kernel.specs.Axioms.{joined_bases}
 use Rattle.isa_kernel.specs.Derivation.{Member, Within}
 use Rattle.isa_kernel.specs.Theorem.{Theorem}
 use Rattle.isa_kernel.specs.Inferences.{has_type, assumed, implies_introduced, implies_eliminated}
@@ -40,17 +42,17 @@ abbrev pub fewer_hyps : List Tm → List Tm → List Tm
 fewer_hyps [] H = H
 fewer_hyps (p ∷ ps) H = without p (fewer_hyps ps H)
 
-pub eliminated_is : (ps H B : List Tm) (q : Tm) → ArePropositions ps → eliminated ps (record { hyps = H; prop = implies ps q; base = B }) ≡ Some (record { hyps = more_hyps H ps; prop = q; base = B })
+pub eliminated_is : (ps H : List Tm) (B : List NamedProp) (q : Tm) → ArePropositions ps → eliminated ps (record { hyps = H; prop = implies ps q; base = B }) ≡ Some (record { hyps = more_hyps H ps; prop = q; base = B })
 unfolding eliminated
 eliminated_is [] H B q w = refl
 eliminated_is (p ∷ ps) H B q w =
     let th : Theorem = record { hyps = H; prop = imp p (implies ps q); base = B } in
     ap (λ b. option_and_then (λ a. option_and_then (λ n. eliminated ps n) (implies_eliminated th a)) (cond b (Some (record { hyps = p ∷ []; prop = p; base = [] })) None)) (has_type_of p w.0)
-    ∙ ap (λ b. option_and_then (λ n. eliminated ps n) (cond b (Some (record { hyps = joined H (p ∷ []); prop = implies ps q; base = joined B [] })) None)) (tm_eq_same p)
+    ∙ ap (λ b. option_and_then (λ n. eliminated ps n) (cond b (Some (record { hyps = joined H (p ∷ []); prop = implies ps q; base = joined_bases B [] })) None)) (tm_eq_same p)
     ∙ ap (λ C. eliminated ps (record { hyps = joined H (p ∷ []); prop = implies ps q; base = C })) (append-nil B)
     ∙ eliminated_is ps (joined H (p ∷ [])) B q w.1
 
-pub introduced_is : (ps H B : List Tm) (q : Tm) → ArePropositions ps → introduced ps (record { hyps = H; prop = q; base = B }) ≡ Some (record { hyps = fewer_hyps ps H; prop = implies ps q; base = B })
+pub introduced_is : (ps H : List Tm) (B : List NamedProp) (q : Tm) → ArePropositions ps → introduced ps (record { hyps = H; prop = q; base = B }) ≡ Some (record { hyps = fewer_hyps ps H; prop = implies ps q; base = B })
 unfolding introduced
 introduced_is [] H B q w = refl
 introduced_is (p ∷ ps) H B q w =
@@ -99,9 +101,9 @@ two_none : (ps qs H : List Tm) → Within H (ps ++ qs) → fewer_hyps ps (fewer_
 two_none ps qs H w = fewer_append ps qs H ∙ fewer_none (ps ++ qs) H w
 
 -- a rule's premises come in the place of the subgoal that its conclusion equals
-pub cut_is : (us bs vs B C : List Tm) (a r c : Tm) → ArePropositions us → ArePropositions bs → tm_eq a r ≡ true →
+pub cut_is : (us bs vs : List Tm) (B C : List NamedProp) (a r c : Tm) → ArePropositions us → ArePropositions bs → tm_eq a r ≡ true →
     cut us bs (record { hyps = []; prop = implies (us ++ (a ∷ vs)) c; base = B }) (record { hyps = []; prop = implies bs r; base = C })
-    ≡ Some (record { hyps = []; prop = implies (us ++ (bs ++ vs)) c; base = joined B C })
+    ≡ Some (record { hyps = []; prop = implies (us ++ (bs ++ vs)) c; base = joined_bases B C })
 unfolding cut
 cut_is us bs vs B C a r c wu wb e =
     let K : List Tm = joined (more_hyps [] us) (more_hyps [] bs) in
@@ -114,17 +116,17 @@ cut_is us bs vs B C a r c wu wb e =
     ap (λ p. option_and_then late (eliminated us (record { hyps = []; prop = p; base = B }))) (implies_append us (a ∷ vs) c)
     ∙ ap (λ o. option_and_then late o) (eliminated_is us [] B (imp a (implies vs c)) wu)
     ∙ ap (λ o. option_and_then (λ met. option_and_then last (implies_eliminated (record { hyps = more_hyps [] us; prop = imp a (implies vs c); base = B }) met)) o) (eliminated_is bs [] C r wb)
-    ∙ ap (λ b. option_and_then last (cond b (Some (record { hyps = K; prop = implies vs c; base = joined B C })) None)) e
-    ∙ ap (λ o. option_and_then (λ inner. introduced us inner) o) (introduced_is bs K (joined B C) (implies vs c) wb)
-    ∙ introduced_is us (fewer_hyps bs K) (joined B C) (implies bs (implies vs c)) wu
-    ∙ (λ i. Some (record { hyps = two_none us bs K k_in i; prop = (ap (implies us) (sym (implies_append bs vs c)) ∙ sym (implies_append us (bs ++ vs) c)) i; base = joined B C }))
+    ∙ ap (λ b. option_and_then last (cond b (Some (record { hyps = K; prop = implies vs c; base = joined_bases B C })) None)) e
+    ∙ ap (λ o. option_and_then (λ inner. introduced us inner) o) (introduced_is bs K (joined_bases B C) (implies vs c) wb)
+    ∙ introduced_is us (fewer_hyps bs K) (joined_bases B C) (implies bs (implies vs c)) wu
+    ∙ (λ i. Some (record { hyps = two_none us bs K k_in i; prop = (ap (implies us) (sym (implies_append bs vs c)) ∙ sym (implies_append us (bs ++ vs) c)) i; base = joined_bases B C }))
 
 -- ---- lifting over assumptions
 abbrev pub met_hyps : List Tm → List Tm → List Tm → List Tm
 met_hyps H hs [] = H
 met_hyps H hs (p ∷ ps) = met_hyps (joined H (more_hyps (implies hs p ∷ []) hs)) hs ps
 
-pub met_is : (hs ps H B : List Tm) (q : Tm) → ArePropositions hs → ArePropositions ps → met_under hs ps (record { hyps = H; prop = implies ps q; base = B }) ≡ Some (record { hyps = met_hyps H hs ps; prop = q; base = B })
+pub met_is : (hs ps H : List Tm) (B : List NamedProp) (q : Tm) → ArePropositions hs → ArePropositions ps → met_under hs ps (record { hyps = H; prop = implies ps q; base = B }) ≡ Some (record { hyps = met_hyps H hs ps; prop = q; base = B })
 unfolding met_under
 met_is hs [] H B q w v = refl
 met_is hs (p ∷ ps) H B q w v =
@@ -132,7 +134,7 @@ met_is hs (p ∷ ps) H B q w v =
     let met : List Tm = more_hyps (implies hs p ∷ []) hs in
     ap (λ b. option_and_then (λ a. option_and_then (λ m. option_and_then (λ n. met_under hs ps n) (implies_eliminated th m)) (eliminated hs a)) (cond b (Some (record { hyps = implies hs p ∷ []; prop = implies hs p; base = [] })) None)) (has_type_of (implies hs p) (implies_proposition hs p w v.0))
     ∙ ap (λ o. option_and_then (λ m. option_and_then (λ n. met_under hs ps n) (implies_eliminated th m)) o) (eliminated_is hs (implies hs p ∷ []) [] p w)
-    ∙ ap (λ b. option_and_then (λ n. met_under hs ps n) (cond b (Some (record { hyps = joined H met; prop = implies ps q; base = joined B [] })) None)) (tm_eq_same p)
+    ∙ ap (λ b. option_and_then (λ n. met_under hs ps n) (cond b (Some (record { hyps = joined H met; prop = implies ps q; base = joined_bases B [] })) None)) (tm_eq_same p)
     ∙ ap (λ C. met_under hs ps (record { hyps = joined H met; prop = implies ps q; base = C })) (append-nil B)
     ∙ met_is hs ps (joined H met) B q w v.1
 
@@ -148,7 +150,7 @@ met_within H hs (p ∷ ps) vs f g h =
     only t (inr m) = absurd m
 
 -- the premises and the conclusion of a rule come under the assumptions
-pub raised_is : (hs ps B : List Tm) (q : Tm) → ArePropositions hs → ArePropositions ps → raised hs ps (record { hyps = []; prop = implies ps q; base = B }) ≡ Some (record { hyps = []; prop = implies (map (implies hs) ps) (implies hs q); base = B })
+pub raised_is : (hs ps : List Tm) (B : List NamedProp) (q : Tm) → ArePropositions hs → ArePropositions ps → raised hs ps (record { hyps = []; prop = implies ps q; base = B }) ≡ Some (record { hyps = []; prop = implies (map (implies hs) ps) (implies hs q); base = B })
 unfolding raised
 raised_is hs ps B q w v =
     let K : List Tm = met_hyps [] hs ps in

@@ -1,4 +1,5 @@
 -- Derivations with a list of hypotheses.
+use Rattle.std.specs.Prelude.{codes}
 use Rattle.std.proofs.Common.{◌≡◌, ◌⊎◌, inl, inr, List, [], ◌∷◌, ◌++◌, map, Bool, true, false, refl, sym, ap, ◌∙◌, subst}
 use Rattle.isa_terms.specs.Terms.{Tm, bare}
 use Rattle.isa_terms.specs.Equal.{tm_eq}
@@ -62,7 +63,7 @@ implies_append (p ∷ ps) qs c = ap (imp p) (implies_append ps qs c)
 -- a proposition under premises is one
 pub implies_proposition : (ps : List Tm) (c : Tm) → ArePropositions ps → IsProposition c → IsProposition (implies ps c)
 implies_proposition [] c w h = h
-implies_proposition (p ∷ ps) c w h = type_of_typed (TApp (TApp TConst (typed_of_type [] p prop w.0)) (typed_of_type [] (implies ps c) prop (implies_proposition ps c w.1 h)))
+implies_proposition (p ∷ ps) c w h = type_of_typed (TApp (TApp (TConst {x = codes "Pure.imp"}) (typed_of_type [] p prop w.0)) (typed_of_type [] (implies ps c) prop (implies_proposition ps c w.1 h)))
 
 pub propositions_under : (hs ps : List Tm) → ArePropositions hs → ArePropositions ps → ArePropositions (map (implies hs) ps)
 propositions_under hs [] w v = tt

@@ -4,7 +4,7 @@ use Rattle.std.proofs.lemmas.List.{take-append-drop}
 use Rattle.std.specs.Prelude.{option_and_then, option_map, Result, Ok, Err}
 use Rattle.isa_terms.specs.Terms.{Tm, bare}
 use Rattle.isa_terms.specs.Equal.{tm_eq}
-use Rattle.isa_terms.specs.Sets.{joined}
+use Rattle.isa_kernel.specs.Axioms.{propositions, joined_bases}
 use Rattle.isa_kernel.specs.Logic.{prop, imp}
 use Rattle.isa_kernel.specs.Forms.{imp_parts}
 use Rattle.isa_kernel.specs.Derivation.{Derives}
@@ -52,11 +52,11 @@ standing_propositions s d = (derived_propositions s.subgoals s.goal d.derivation
 pub rule_propositions : (n : ℕ) (th : Theorem) (at : List Tm × Tm) → rule_form n th ≡ Some at → IsDerived th → ArePropositions at.0
 rule_propositions n th at e d =
     let q = rule_made n th at e in
-    (derived_propositions at.0 at.1 (subst (λ (x : Theorem). Derives (map bare th.base) (map bare th.hyps) (bare x.prop)) q d.derivation)).0
+    (derived_propositions at.0 at.1 (subst (λ (x : Theorem). Derives (propositions th.base) (map bare th.hyps) (bare x.prop)) q d.derivation)).0
 
 -- the state with a theorem's premises in the place of a subgoal
 abbrev pub placed : Goals → Theorem → (List Tm × Tm × List Tm) → List Tm → Goals
-placed s th at bs = record { subgoals = at.0 ++ (bs ++ at.2); goal = s.goal; base = joined s.base th.base }
+placed s th at bs = record { subgoals = at.0 ++ (bs ++ at.2); goal = s.goal; base = joined_bases s.base th.base }
 
 pub refined_cut : (i n : ℕ) (s : Goals) (th : Theorem) (at : List Tm × Tm × List Tm) (parts : List Tm × Tm) → around i s.subgoals ≡ Some at → rule_form n th ≡ Some parts → tm_eq at.1 parts.1 ≡ true → IsStanding s → IsDerived th →
     cut at.0 parts.0 (theorem_of s) th ≡ Some (theorem_of (placed s th at parts.0))

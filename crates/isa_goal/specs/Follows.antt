@@ -6,6 +6,7 @@ use Rattle.isa_terms.specs.declared.inst.TypeEntry.{TypeEntry}
 use Rattle.isa_terms.specs.declared.inst.TermEntry.{TermEntry}
 use Rattle.isa_terms.specs.Norm.{norm}
 use Rattle.isa_terms.specs.Normal.{IsNormal}
+use Rattle.isa_kernel.specs.Axioms.{propositions}
 use Rattle.isa_kernel.specs.Derivation.{Derives}
 use Rattle.isa_kernel.specs.Theorem.{Theorem, IsDerived}
 use Rattle.isa_kernel.specs.Inferences.{keeps}
@@ -21,13 +22,13 @@ abbrev pub Each : (Tm → Type 0) → List Tm → Type 0
 Each P [] = Unit {0}
 Each P (t ∷ ts) = P t × Each P ts
 
--- the goal of t is an instance of that of s, and each subgoal of s, so instantiated, follows from those of t
+-- by the axioms `ax`: the goal of t is an instance of that of s, and each subgoal of s, so instantiated, follows from those of t
 pub record Follows (ax : List Tm) (s t : Goals) : Type 0 where
   pub types : List TypeEntry
   pub terms : List TermEntry
   pub kept : keeps types terms ≡ true
   pub goal : bare t.goal ≡ bare (instance types terms s.goal)
-  pub subgoals : Each (λ a. Derives (map bare ax) [] (bare (implies t.subgoals (instance types terms a)))) s.subgoals
+  pub subgoals : Each (λ a. Derives ax [] (bare (implies t.subgoals (instance types terms a)))) s.subgoals
 
 -- where there is an answer, it follows
 abbrev pub Leads : List Tm → Goals → Result Goals InferenceError → Type 0
@@ -37,7 +38,7 @@ Leads ax s (Err e) = Unit {0}
 -- the goal is the same, and each subgoal of s follows from those of t
 pub record Reduces (ax : List Tm) (s t : Goals) : Type 0 where
   pub goal : t.goal ≡ s.goal
-  pub subgoals : Each (λ a. Derives (map bare ax) [] (bare (implies t.subgoals a))) s.subgoals
+  pub subgoals : Each (λ a. Derives ax [] (bare (implies t.subgoals a))) s.subgoals
 
 -- the state under the instance
 abbrev pub instanced : List TypeEntry → List TermEntry → Goals → Goals
@@ -54,7 +55,7 @@ FollowsItself = (s : Goals) → IsStanding s → IsNormalState s → Follows [] 
 
 -- the refined state has the old goal, and the old subgoals follow from its own by the theorem's axioms
 abbrev pub RefinedReduces : Type 0
-RefinedReduces = (i n : ℕ) (th : Theorem) (s t : Goals) → refined i th n s ≡ Some t → IsStanding s → IsDerived th → Reduces th.base s t
+RefinedReduces = (i n : ℕ) (th : Theorem) (s t : Goals) → refined i th n s ≡ Some t → IsStanding s → IsDerived th → Reduces (propositions th.base) s t
 
 -- what is reduced and then instantiated follows
 abbrev pub InstancedFollows : Type 0
