@@ -3,16 +3,15 @@ use Rattle.std.proofs.Common.{◌≡◌, ◌⊎◌, inl, inr, ℕ, List, [], ◌
 use Rattle.isa_terms.specs.Types.{Ty, Tys, TyCon, TyFixed, TyUnknown, NoTys, MoreTys}
 use Rattle.isa_terms.specs.Terms.{Tm, Const, Free, Unknown, Bound, Abs, App, bare}
 use Rattle.isa_terms.specs.Equal.{tm_eq}
-use Rattle.isa_terms.specs.Instance.{inst_ty, inst_tys, inst_tm, in_tms}
-use Rattle.isa_terms.specs.declared.inst.TypeEntry.{TypeEntry}
-use Rattle.isa_terms.specs.declared.inst.TermEntry.{TermEntry}
+use Rattle.isa_terms.specs.Instance.{Instance, instance_of, inst_ty, inst_tys, inst_tm, in_tms}
 use Rattle.isa_terms.proofs.Bare.{tm_decides, type_at_bare}
 use Rattle.isa_terms.specs.Norm.{norm}
 use Rattle.isa_terms.specs.Normal.{IsNormal}
 use Rattle.isa_kernel.specs.Logic.{prop, imp, eq, IsProposition}
 use Rattle.isa_kernel.specs.Axioms.{propositions}
 use Rattle.isa_kernel.specs.declared.axioms.NamedProp.{NamedProp}
-use Rattle.isa_kernel.specs.Derivation.{Member, Within, Tree, Instance, EqualElim, Derives}
+use Rattle.isa_kernel.specs.Derivation.{Member, Within, Tree, EqualElim, Derives}
+use Rattle.isa_kernel.specs.Derivation as derivation
 use Rattle.isa_kernel.specs.Theorem.{Theorem, IsDerived}
 use Rattle.isa_kernel.specs.Inferences.{keeps, instantiated}
 use Rattle.isa_conversion.proofs.Functions.{bind_some, cond_some}
@@ -25,7 +24,7 @@ use Rattle.isa_conversion.proofs.Typed.{type_of_typed}
 use Rattle.isa_terms.specs.Typing.{HasType}
 use Rattle.isa_conversion.proofs.Normal.{norm_same}
 use Rattle.isa_goal.specs.Goals.{Goals, implies, IsStanding, around, rule_form, refined}
-use Rattle.isa_goal.specs.Follows.{instance, Each, Follows, Reduces, instanced, IsNormalState}
+use Rattle.isa_goal.specs.Follows.{Each, Follows, Reduces, instanced, IsNormalState}
 use Rattle.isa_goal.proofs.Deriving.{ArePropositions, propositions_append, propositions_left, propositions_right, propositions_bare, propositions_member, implies_bare, derived_propositions, derive_more, derive_assume, derive_intros, derive_elims}
 use Rattle.isa_goal.proofs.Refining.{around_made, rule_made, standing_propositions, rule_propositions, placed}
 
@@ -88,6 +87,12 @@ module _ (ax us bs vs : List Tm) (a r : Tm) (ws : ArePropositions (us ++ (bs ++ 
     | inr k ↦ elim k [ inl e ↦ met x e | inr n ↦ itself ax (us ++ (bs ++ vs)) x ws (Member-right x us (bs ++ vs) (Member-right x bs vs n)) ]
   ]
 
+placed_propositions : (i n : ℕ) (th : Theorem) (s : Goals) (at : List Tm × Tm × List Tm) (parts : List Tm × Tm) → around i s.subgoals ≡ Some at → rule_form n th ≡ Some parts → IsStanding s → IsDerived th → ArePropositions (at.0 ++ (parts.0 ++ at.2))
+placed_propositions i n th s at parts a r d f =
+    let all : ArePropositions (at.0 ++ (at.1 ∷ at.2)) = subst (λ ts. ArePropositions ts) (around_made i s.subgoals at a) (standing_propositions s d) in
+    propositions_append at.0 (parts.0 ++ at.2) (propositions_left at.0 (at.1 ∷ at.2) all)
+      (propositions_append parts.0 at.2 (rule_propositions n th parts r f) (propositions_right at.0 (at.1 ∷ at.2) all).1)
+
 placed_reduces : (i n : ℕ) (th : Theorem) (s : Goals) (at : List Tm × Tm × List Tm) (parts : List Tm × Tm) → around i s.subgoals ≡ Some at → rule_form n th ≡ Some parts → bare at.1 ≡ bare parts.1 → IsStanding s → IsDerived th → Reduces (propositions th.base) s (placed s th at parts.0)
 placed_reduces i n th s at parts a r same d f =
     let here = around_made i s.subgoals at a in
@@ -110,35 +115,41 @@ refined_reduces i n th s t e d f =
     let c = cond_some (tm_eq a.0.1 r.0.1) _ r.2 in
     subst (λ x. Reduces (propositions th.base) s x) (cc (c.1)) (placed_reduces i n th s a.0 r.0 a.1 r.1 ((tm_decides a.0.1 r.0.1).0 c.0) d f)
 
--- ---- instances
-pub instance_implies : (es : List TypeEntry) (fs : List TermEntry) (ps : List Tm) (c : Tm) → instance es fs (implies ps c) ≡ implies (map (instance es fs) ps) (instance es fs c)
-instance_implies es fs [] c = refl
-instance_implies es fs (p ∷ ps) c = ap (imp (instance es fs p)) (instance_implies es fs ps c)
+pub refined_propositions : (i n : ℕ) (th : Theorem) (s t : Goals) → refined i th n s ≡ Some t → IsStanding s → IsDerived th → ArePropositions t.subgoals
+refined_propositions i n th s t e d f =
+    let a = bind_some (around i s.subgoals) _ e in
+    let r = bind_some (rule_form n th) _ a.2 in
+    let c = cond_some (tm_eq a.0.1 r.0.1) _ r.2 in
+    subst (λ (x : Goals). ArePropositions x.subgoals) (cc (c.1)) (placed_propositions i n th s a.0 r.0 a.1 r.1 d f)
 
-pub instantiated_is : (es : List TypeEntry) (fs : List TermEntry) (p : Tm) (B : List NamedProp) → keeps es fs ≡ true → instantiated es fs (record { hyps = []; prop = p; base = B }) ≡ Some (record { hyps = []; prop = instance es fs p; base = B })
-instantiated_is es fs p B k = ap (λ b. cond (b && true) (Some (record { hyps = []; prop = instance es fs p; base = B })) None) k
+-- ---- instances
+pub instance_implies : (n : Instance) (ps : List Tm) (c : Tm) → instance_of n (implies ps c) ≡ implies (map (instance_of n) ps) (instance_of n c)
+instance_implies n [] c = refl
+instance_implies n (p ∷ ps) c = ap (imp (instance_of n p)) (instance_implies n ps c)
+
+pub instantiated_is : (n : Instance) (p : Tm) (B : List NamedProp) → keeps n.types n.terms ≡ true → instantiated n (record { hyps = []; prop = p; base = B }) ≡ Some (record { hyps = []; prop = instance_of n p; base = B })
+instantiated_is n p B k = ap (λ b. cond (b && true) (Some (record { hyps = []; prop = instance_of n p; base = B })) None) k
 
 -- an instance of what is derived from no hypothesis
-pub instance_derives : {ax : List Tm} (es : List TypeEntry) (fs : List TermEntry) (p : Tm) → keeps es fs ≡ true → Derives ax [] (bare p) → Derives ax [] (bare (instance es fs p))
-instance_derives {ax} es fs p k d =
-    let q : Tm = inst_tm es fs p in
-    let free : in_tms es (bare_entries fs) d.used ≡ false = in_tms_false es (bare_entries fs) d.used (λ t m. absurd (d.within t m)) in
-    let tree : Tree ax d.used (bare q) = subst (λ r. Tree ax d.used r) (inst_bare es fs p) (Instance es (bare_entries fs) (kept es fs k) free d.tree) in
+pub instance_derives : {ax : List Tm} (n : Instance) (p : Tm) → keeps n.types n.terms ≡ true → Derives ax [] (bare p) → Derives ax [] (bare (instance_of n p))
+instance_derives {ax} n p k d =
+    let q : Tm = inst_tm n.types n.terms p in
+    let free : in_tms n.types (bare_entries n.terms) d.used ≡ false = in_tms_false n.types (bare_entries n.terms) d.used (λ t m. absurd (d.within t m)) in
+    let tree : Tree ax d.used (bare q) = subst (λ r. Tree ax d.used r) (inst_bare n.types n.terms p) (derivation.Instance n.types (bare_entries n.terms) (kept n.types n.terms k) free d.tree) in
     let typed : HasType q prop = sym (type_at_bare [] q) ∙ type_of_typed (derived_typed tree) in
     let same : Tree ax [] (eq prop (bare q) (bare (norm q))) = tree_more (λ r m. absurd m) (norm_tree q prop typed) in
     record { used = d.used; tree = EqualElim same tree; within = d.within }
 
-pub from_instance : (ax : List Tm) (es : List TypeEntry) (fs : List TermEntry) (ps : List Tm) (q : Tm) → keeps es fs ≡ true → From ax ps q → From ax (map (instance es fs) ps) (instance es fs q)
-from_instance ax es fs ps q k d = subst (λ p. Derives ax [] (bare p)) (instance_implies es fs ps q) (instance_derives es fs (implies ps q) k d)
+pub from_instance : (ax : List Tm) (n : Instance) (ps : List Tm) (q : Tm) → keeps n.types n.terms ≡ true → From ax ps q → From ax (map (instance_of n) ps) (instance_of n q)
+from_instance ax n ps q k d = subst (λ p. Derives ax [] (bare p)) (instance_implies n ps q) (instance_derives n (implies ps q) k d)
 
 -- what is reduced and then instantiated follows
-pub instanced_follows : (ax : List Tm) (es : List TypeEntry) (fs : List TermEntry) (s t : Goals) → keeps es fs ≡ true → Reduces ax s t → Follows ax s (instanced es fs t)
-instanced_follows ax es fs s t k d = record {
-  types = es;
-  terms = fs;
+pub instanced_follows : (ax : List Tm) (n : Instance) (s t : Goals) → keeps n.types n.terms ≡ true → Reduces ax s t → Follows ax s (instanced n t)
+instanced_follows ax n s t k d = record {
+  inst = n;
   kept = k;
-  goal = ap (λ g. bare (instance es fs g)) d.goal;
-  subgoals = each_of s.subgoals (λ a m. from_instance ax es fs t.subgoals a k (of_each _ s.subgoals d.subgoals a m));
+  goal = ap (λ g. bare (instance_of n g)) d.goal;
+  subgoals = each_of s.subgoals (λ a m. from_instance ax n t.subgoals a k (of_each _ s.subgoals d.subgoals a m));
 }
 
 -- ---- the empty instance
@@ -160,14 +171,13 @@ empty_tm (Bound n) = refl
 empty_tm (Abs x T b) = λ i. Abs x (empty_ty T i) (empty_tm b i)
 empty_tm (App f a) = λ i. App (empty_tm f i) (empty_tm a i)
 
-pub empty_instance : (t : Tm) → IsNormal t → instance [] [] t ≡ t
+pub empty_instance : (t : Tm) → IsNormal t → instance_of (record { types = []; terms = [] }) t ≡ t
 empty_instance t h = ap norm (empty_tm t) ∙ norm_same t h
 
 -- a normal state follows from itself, and what reduces it follows from it
 pub reduced_follows : (ax : List Tm) (s t : Goals) → IsNormalState s → Reduces ax s t → Follows ax s t
 reduced_follows ax s t n d = record {
-  types = [];
-  terms = [];
+  inst = record { types = []; terms = [] };
   kept = refl;
   goal = ap bare (d.goal ∙ sym (empty_instance s.goal n.goal));
   subgoals = each_of s.subgoals (λ a m. subst (λ q. From ax t.subgoals q) (sym (empty_instance a (of_each _ s.subgoals n.subgoals a m))) (of_each _ s.subgoals d.subgoals a m));
@@ -190,14 +200,20 @@ map_member g P [] h u m = absurd m
 map_member g P (t ∷ ts) h u (inl e) = subst P (sym e) (h t (inl refl))
 map_member g P (t ∷ ts) h u (inr m) = map_member g P ts (λ x n. h x (inr n)) u m
 
+-- one reduction after the other
+pub reduces_more : (ax : List Tm) (s t u : Goals) → ArePropositions u.subgoals → Reduces ax s t → Reduces [] t u → Reduces ax s u
+reduces_more ax s t u w d e = record {
+  goal = e.goal ∙ d.goal;
+  subgoals = each_of s.subgoals (λ a m. chain ax t.subgoals u.subgoals a w (of_each _ s.subgoals d.subgoals a m) (λ p n. derive_more (λ r k. absurd k) (λ r k. k) (of_each _ t.subgoals e.subgoals p n)));
+}
+
 -- a state that follows from one to which another reduces
 pub reduces_follows : (ax : List Tm) (s t u : Goals) → ArePropositions u.subgoals → Reduces ax s t → Follows ax t u → Follows ax s u
 reduces_follows ax s t u w d f = record {
-  types = f.types;
-  terms = f.terms;
+  inst = f.inst;
   kept = f.kept;
-  goal = f.goal ∙ ap (λ g. bare (instance f.types f.terms g)) d.goal;
-  subgoals = each_of s.subgoals (λ a m. chain ax (map (instance f.types f.terms) t.subgoals) u.subgoals (instance f.types f.terms a) w
-      (from_instance ax f.types f.terms t.subgoals a f.kept (of_each _ s.subgoals d.subgoals a m))
-      (map_member (instance f.types f.terms) (λ p. From ax u.subgoals p) t.subgoals (of_each _ t.subgoals f.subgoals)));
+  goal = f.goal ∙ ap (λ g. bare (instance_of f.inst g)) d.goal;
+  subgoals = each_of s.subgoals (λ a m. chain ax (map (instance_of f.inst) t.subgoals) u.subgoals (instance_of f.inst a) w
+      (from_instance ax f.inst t.subgoals a f.kept (of_each _ s.subgoals d.subgoals a m))
+      (map_member (instance_of f.inst) (λ p. From ax u.subgoals p) t.subgoals (of_each _ t.subgoals f.subgoals)));
 }

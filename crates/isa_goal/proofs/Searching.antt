@@ -1,38 +1,40 @@
 -- What a search gives.
 use Rattle.std.proofs.Common.{◌≡◌, ℕ, zero, suc, ◌+◌, ◌<◌, ◌≤◌, arith, List, [], ◌∷◌, ◌++◌, map, drop, get_or, length, Bool, true, false, cond, Option, Some, None, refl, sym, ap, ◌∙◌, subst}
-use Rattle.std.specs.Prelude.{option_and_then, option_map, Result, Ok, Err, IfNone}
+use Rattle.std.specs.Prelude.{option_and_then, option_map, is_some, Result, Ok, Err, IfNone}
 use Rattle.std.proofs.lemmas.List.{drop_more}
 use Rattle.std.specs.declared.alloc.AllocError.{AllocError}
 use Rattle.isa_terms.specs.Terms.{Tm, bare}
+use Rattle.isa_terms.specs.Instance.{Instance}
 use Rattle.isa_terms.specs.declared.inst.TermEntry.{TermEntry}
 use Rattle.isa_kernel.specs.Axioms.{propositions}
 use Rattle.isa_kernel.specs.Derivation.{Within}
 use Rattle.isa_kernel.specs.Theorem.{Theorem, IsDerived}
 use Rattle.isa_kernel.proofs.Members.{bases_left, bases_right}
 use Rattle.isa_goal.specs.Goals.{Goals, premises, conclusion, IsStanding, around, refined}
-use Rattle.isa_goal.specs.Names.{unknowns_in, canon}
+use Rattle.isa_goal.specs.Names.{canon}
 use Rattle.isa_goal.specs.Follows.{Follows}
-use Rattle.isa_goal.specs.Matching.{matched}
-use Rattle.isa_goal.specs.Resolving.{apart, lifted, lifted_by, resolved, attempt, limited, with_first, results, base_of, FollowsIfFound, Search, left, Steps}
+use Rattle.isa_goal.specs.Matching.{matched, is_first_order}
+use Rattle.isa_goal.specs.Resolving.{matching, lifted, lifted_by, resolved, attempt, limited, with_first, results, base_of, FollowsIfFound, Search, left, Steps}
 use Rattle.isa_goal.specs.declared.found.Found.{Found}
 use Rattle.isa_goal.specs.declared.found.Found.TheVariants.{Outside, Res}
 use Rattle.isa_goal.proofs.Deriving.{derive_more}
 use Rattle.isa_goal.proofs.Following.{each_of, of_each}
-use Rattle.isa_goal.proofs.Lifting.{lifted_is}
+use Rattle.isa_goal.proofs.Lifting.{lifted_is, matching_keeps}
 
 -- ---- one rule
 -- the inferences give the lifted rule, and this refines the state
-pub resolve_is : (i : ℕ) (s : Goals) (th : Theorem) (us vs : List Tm) (w : Tm) (ps : List Tm) (c : Tm) (hs : List Tm) (d : Tm) (fs : List TermEntry) → IsStanding s → IsDerived th → th.hyps ≡ [] →
-    ps ≡ premises th.prop → c ≡ conclusion th.prop → around i s.subgoals ≡ Some (us, w, vs) → hs ≡ premises w → d ≡ conclusion w → matched c d [] ≡ Some fs →
-    (lifted_by hs (length ps) fs th ≡ Some (lifted (premises w) (fs ++ apart (unknowns_in [] th.prop)) th)) ×
-    (resolved i th s ≡ option_map canon (refined i (lifted (premises w) (fs ++ apart (unknowns_in [] th.prop)) th) (length ps) s))
-resolve_is i s th us vs w ps c hs d fs st der h p q a r e m =
+pub resolve_is : (i : ℕ) (s : Goals) (th : Theorem) (us vs : List Tm) (w : Tm) (ps : List Tm) (c : Tm) (hs : List Tm) (d : Tm) (fs : List TermEntry) (n : Instance) → IsStanding s → IsDerived th → th.hyps ≡ [] → is_first_order c ≡ true →
+    ps ≡ premises th.prop → c ≡ conclusion th.prop → around i s.subgoals ≡ Some (us, w, vs) → hs ≡ premises w → d ≡ conclusion w → matched c d [] ≡ Some fs → n ≡ matching fs th →
+    (lifted_by hs (length ps) n th ≡ Some (lifted (premises w) (matching fs th) th)) ×
+    (resolved i th s ≡ option_map canon (refined i (lifted (premises w) (matching fs th) th) (length ps) s))
+resolve_is i s th us vs w ps c hs d fs n st der h o p q a r e m x =
     let k : matched (conclusion th.prop) (conclusion w) [] ≡ Some fs = (λ j. matched (sym q j) (sym e j) []) ∙ m in
+    let first : is_first_order (conclusion th.prop) ≡ true = ap is_first_order (sym q) ∙ o in
     (
-      (λ j. lifted_by (r j) (length (p j)) fs th) ∙ lifted_is i s th (us, w, vs) fs st der h a k,
-      ap (λ o. option_and_then {T = List Tm × Tm × List Tm} {U = Goals} (λ at. option_and_then {T = List TermEntry} {U = Goals} (λ gs. option_map canon (refined i (lifted (premises at.1) (gs ++ apart (unknowns_in [] th.prop)) th) (length (premises th.prop)) s)) (matched (conclusion th.prop) (conclusion at.1) [])) o) a
-        ∙ ap (λ o. option_and_then {T = List TermEntry} {U = Goals} (λ gs. option_map canon (refined i (lifted (premises w) (gs ++ apart (unknowns_in [] th.prop)) th) (length (premises th.prop)) s)) o) k
-        ∙ ap (λ ts. option_map canon (refined i (lifted (premises w) (fs ++ apart (unknowns_in [] th.prop)) th) (length ts) s)) (sym p),
+      (λ j. lifted_by (r j) (length (p j)) (x j) th) ∙ lifted_is i s th (us, w, vs) (matching fs th) st der h a (matching_keeps fs th (conclusion w) first k),
+      ap (λ y. option_and_then {T = List Tm × Tm × List Tm} {U = Goals} (λ at. option_and_then {T = List TermEntry} {U = Goals} (λ gs. option_map canon (refined i (lifted (premises at.1) (matching gs th) th) (length (premises th.prop)) s)) (matched (conclusion th.prop) (conclusion at.1) [])) y) a
+        ∙ ap (λ y. option_and_then {T = List TermEntry} {U = Goals} (λ gs. option_map canon (refined i (lifted (premises w) (matching gs th) th) (length (premises th.prop)) s)) y) k
+        ∙ ap (λ ts. option_map canon (refined i (lifted (premises w) (matching fs th) th) (length ts) s)) (sym p),
     )
 
 pub resolve_never : (L : Theorem) (o : Option Theorem) → o ≡ Some L → None ≡ o → ⊥
@@ -47,8 +49,7 @@ resolve_some i n s th x L ps o k e l =
 -- ---- following under more axioms
 pub follows_more : (ax bx : List Tm) (s t : Goals) → Within ax bx → Follows ax s t → Follows bx s t
 follows_more ax bx s t w f = record {
-  types = f.types;
-  terms = f.terms;
+  inst = f.inst;
   kept = f.kept;
   goal = f.goal;
   subgoals = each_of s.subgoals (λ a m. derive_more w (λ r n. n) (of_each _ s.subgoals f.subgoals a m));
@@ -75,6 +76,10 @@ next_step i rules s k th o l e f =
     ap (λ r. results i r s) (drop_more rules k th l)
     ∙ ap (λ x. with_first (attempt i x s) (results i (drop (k + 1) rules) s)) (sym e)
     ∙ ap (λ x. with_first x (results i (drop (k + 1) rules) s)) (sym f)
+
+pub first_none : (o : Option Found) (fs : List Found) → is_some o ≡ false → with_first o fs ≡ fs
+first_none None fs e = refl
+first_none (Some f) fs e = absurd (cc)
 
 drop_all : (rules : List Theorem) → drop (length rules) rules ≡ []
 drop_all [] = refl
