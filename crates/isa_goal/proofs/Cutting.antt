@@ -108,8 +108,8 @@ unfolding cut
 cut_is us bs vs B C a r c wu wb e =
     let K : List Tm = joined (more_hyps [] us) (more_hyps [] bs) in
     let k_in : Within K (us ++ bs) = joined_within (more_hyps [] us) (more_hyps [] bs) (us ++ bs)
-      (more_within [] us (us ++ bs) (λ t m. absurd m) (λ t m. Member-left t us bs m))
-      (more_within [] bs (us ++ bs) (λ t m. absurd m) (λ t m. Member-right t us bs m)) in
+    (more_within [] us (us ++ bs) (λ t m. absurd m) (λ t m. Member-left t us bs m))
+    (more_within [] bs (us ++ bs) (λ t m. absurd m) (λ t m. Member-right t us bs m)) in
     let rule : Theorem = record { hyps = []; prop = implies bs r; base = C } in
     let last = λ (x : Theorem). option_and_then (λ inner. introduced us inner) (introduced bs x) in
     let late = λ (x : Theorem). option_and_then (λ met. option_and_then last (implies_eliminated x met)) (eliminated bs rule) in
@@ -142,8 +142,8 @@ met_within : (H hs ps vs : List Tm) → Within H vs → Within hs vs → Within 
 met_within H hs [] vs f g h = f
 met_within H hs (p ∷ ps) vs f g h =
     met_within (joined H (more_hyps (implies hs p ∷ []) hs)) hs ps vs
-      (joined_within H (more_hyps (implies hs p ∷ []) hs) vs f (more_within (implies hs p ∷ []) hs vs (λ t m. h t (only t m)) g))
-      g (λ t m. h t (inr m))
+    (joined_within H (more_hyps (implies hs p ∷ []) hs) vs f (more_within (implies hs p ∷ []) hs vs (λ t m. h t (only t m)) g))
+    g (λ t m. h t (inr m))
   where
     only : (t : Tm) → Member t (implies hs p ∷ []) → Member t (implies hs p ∷ map (implies hs) ps)
     only t (inl e) = inl e

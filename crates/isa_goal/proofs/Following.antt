@@ -91,7 +91,7 @@ placed_propositions : (i n : ℕ) (th : Theorem) (s : Goals) (at : List Tm × Tm
 placed_propositions i n th s at parts a r d f =
     let all : ArePropositions (at.0 ++ (at.1 ∷ at.2)) = subst (λ ts. ArePropositions ts) (around_made i s.subgoals at a) (standing_propositions s d) in
     propositions_append at.0 (parts.0 ++ at.2) (propositions_left at.0 (at.1 ∷ at.2) all)
-      (propositions_append parts.0 at.2 (rule_propositions n th parts r f) (propositions_right at.0 (at.1 ∷ at.2) all).1)
+    (propositions_append parts.0 at.2 (rule_propositions n th parts r f) (propositions_right at.0 (at.1 ∷ at.2) all).1)
 
 placed_reduces : (i n : ℕ) (th : Theorem) (s : Goals) (at : List Tm × Tm × List Tm) (parts : List Tm × Tm) → around i s.subgoals ≡ Some at → rule_form n th ≡ Some parts → bare at.1 ≡ bare parts.1 → IsStanding s → IsDerived th → Reduces (propositions th.base) s (placed s th at parts.0)
 placed_reduces i n th s at parts a r same d f =

@@ -42,7 +42,7 @@ apart_keeps es (App f a ∷ us) = apart_keeps es us
 pub matching_keeps : (fs : List TermEntry) (th : Theorem) (t : Tm) → is_first_order (conclusion th.prop) ≡ true → matched (conclusion th.prop) t [] ≡ Some fs → keeps (matching fs th).types (matching fs th).terms ≡ true
 matching_keeps fs th t o m =
     keeps_sets (new_types th) fs (set_terms (apart (new_types th) (unknowns_in [] th.prop)) []) (matched_keeps (new_types th) (conclusion th.prop) t [] fs o m refl)
-      (keeps_sets (new_types th) (apart (new_types th) (unknowns_in [] th.prop)) [] (apart_keeps (new_types th) (unknowns_in [] th.prop)) refl)
+    (keeps_sets (new_types th) (apart (new_types th) (unknowns_in [] th.prop)) [] (apart_keeps (new_types th) (unknowns_in [] th.prop)) refl)
 
 map_twice : (f g : Tm → Tm) (ts : List Tm) → map f (map g ts) ≡ map (λ t. f (g t)) ts
 map_twice f g [] = refl

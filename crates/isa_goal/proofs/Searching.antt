@@ -1,5 +1,5 @@
 -- What a search gives.
-use Rattle.std.proofs.Common.{◌≡◌, ℕ, zero, suc, ◌+◌, ◌<◌, ◌≤◌, arith, List, [], ◌∷◌, ◌++◌, map, drop, get_or, length, Bool, true, false, cond, Option, Some, None, refl, sym, ap, ◌∙◌, subst}
+use Rattle.std.proofs.Common.{◌≡◌, ℕ, zero, suc, ◌+◌, ◌<◌, ◌≤◌, arith, List, [], ◌∷◌, ◌++◌, map, drop, get_or, length, Bool, true, false, cond, ◌⊎◌, inl, inr, Option, Some, None, refl, sym, ap, ◌∙◌, subst}
 use Rattle.std.specs.Prelude.{option_and_then, option_map, is_some, Result, Ok, Err, IfNone}
 use Rattle.std.proofs.lemmas.List.{drop_more}
 use Rattle.std.specs.declared.alloc.AllocError.{AllocError}
@@ -7,7 +7,7 @@ use Rattle.isa_terms.specs.Terms.{Tm, bare}
 use Rattle.isa_terms.specs.Instance.{Instance}
 use Rattle.isa_terms.specs.declared.inst.TermEntry.{TermEntry}
 use Rattle.isa_kernel.specs.Axioms.{propositions}
-use Rattle.isa_kernel.specs.Derivation.{Within}
+use Rattle.isa_kernel.specs.Derivation.{Member, Within}
 use Rattle.isa_kernel.specs.Theorem.{Theorem, IsDerived}
 use Rattle.isa_kernel.proofs.Members.{bases_left, bases_right}
 use Rattle.isa_goal.specs.Goals.{Goals, premises, conclusion, IsStanding, around, refined}
@@ -29,12 +29,11 @@ pub resolve_is : (i : ℕ) (s : Goals) (th : Theorem) (us vs : List Tm) (w : Tm)
     (resolved i th s ≡ option_map canon (refined i (lifted (premises w) (matching fs th) th) (length ps) s))
 resolve_is i s th us vs w ps c hs d fs n st der h o p q a r e m x =
     let k : matched (conclusion th.prop) (conclusion w) [] ≡ Some fs = (λ j. matched (sym q j) (sym e j) []) ∙ m in
-    let first : is_first_order (conclusion th.prop) ≡ true = ap is_first_order (sym q) ∙ o in
-    (
+    let first : is_first_order (conclusion th.prop) ≡ true = ap is_first_order (sym q) ∙ o in (
       (λ j. lifted_by (r j) (length (p j)) (x j) th) ∙ lifted_is i s th (us, w, vs) (matching fs th) st der h a (matching_keeps fs th (conclusion w) first k),
       ap (λ y. option_and_then {T = List Tm × Tm × List Tm} {U = Goals} (λ at. option_and_then {T = List TermEntry} {U = Goals} (λ gs. option_map canon (refined i (lifted (premises at.1) (matching gs th) th) (length (premises th.prop)) s)) (matched (conclusion th.prop) (conclusion at.1) [])) y) a
-        ∙ ap (λ y. option_and_then {T = List TermEntry} {U = Goals} (λ gs. option_map canon (refined i (lifted (premises w) (matching gs th) th) (length (premises th.prop)) s)) y) k
-        ∙ ap (λ ts. option_map canon (refined i (lifted (premises w) (matching fs th) th) (length ts) s)) (sym p),
+          ∙ ap (λ y. option_and_then {T = List TermEntry} {U = Goals} (λ gs. option_map canon (refined i (lifted (premises w) (matching gs th) th) (length (premises th.prop)) s)) y) k
+          ∙ ap (λ ts. option_map canon (refined i (lifted (premises w) (matching fs th) th) (length ts) s)) (sym p),
     )
 
 pub resolve_never : (L : Theorem) (o : Option Theorem) → o ≡ Some L → None ≡ o → ⊥
@@ -56,7 +55,12 @@ follows_more ax bx s t w f = record {
 }
 
 pub found_more : (ax bx : List Tm) (s : Goals) (o : Option Found) → Within ax bx → FollowsIfFound ax s o → FollowsIfFound bx s o
-found_more ax bx s (Some (Res t)) w f = follows_more ax bx s t w f
+found_more ax bx s (Some (Res t)) w f = record { follows = follows_more ax bx s t w f.follows; rests = λ p m. more (propositions s.base) p (f.rests p m) }
+  where
+    more : (xs : List Tm) (p : Tm) → Member p (xs ++ ax) → Member p (xs ++ bx)
+    more [] p m = w p m
+    more (x ∷ xs) p (inl e) = inl e
+    more (x ∷ xs) p (inr m) = inr (more xs p m)
 found_more ax bx s (Some Outside) w f = tt
 found_more ax bx s None w f = tt
 

@@ -1,10 +1,10 @@
 -- How a state follows from another.
-use Rattle.std.specs.Prelude.{◌≡◌, ℕ, List, [], ◌∷◌, map, Bool, true, Option, Some, Result, Ok, Err}
+use Rattle.std.specs.Prelude.{◌≡◌, ℕ, List, [], ◌∷◌, ◌++◌, map, Bool, true, Option, Some, Result, Ok, Err}
 use Rattle.isa_terms.specs.Terms.{Tm, bare}
 use Rattle.isa_terms.specs.Instance.{Instance, instance_of}
 use Rattle.isa_terms.specs.Normal.{IsNormal}
 use Rattle.isa_kernel.specs.Axioms.{propositions}
-use Rattle.isa_kernel.specs.Derivation.{Derives}
+use Rattle.isa_kernel.specs.Derivation.{Within, Derives}
 use Rattle.isa_kernel.specs.Theorem.{Theorem, IsDerived}
 use Rattle.isa_kernel.specs.Inferences.{keeps}
 use Rattle.isa_kernel.specs.declared.inference.InferenceError.{InferenceError}
@@ -22,9 +22,14 @@ pub record Follows (ax : List Tm) (s t : Goals) : Type 0 where
   pub goal : bare t.goal ≡ bare (instance_of inst s.goal)
   pub subgoals : Each (λ a. Derives ax [] (bare (implies t.subgoals (instance_of inst a)))) s.subgoals
 
+-- t follows from s by the axioms, and rests on these and on those of s
+pub record Advances (ax : List Tm) (s t : Goals) : Type 0 where
+  pub follows : Follows ax s t
+  pub rests : Within (propositions t.base) (propositions s.base ++ ax)
+
 -- where there is an answer, it follows
 abbrev pub Leads : List Tm → Goals → Result Goals InferenceError → Type 0
-Leads ax s (Ok t) = Follows ax s t
+Leads ax s (Ok t) = Advances ax s t
 Leads ax s (Err e) = Unit {0}
 
 -- the goal is the same, and each subgoal of s follows from those of t
