@@ -120,7 +120,8 @@ refined_propositions i n th s t e d f =
     let a = bind_some (around i s.subgoals) _ e in
     let r = bind_some (rule_form n th) _ a.2 in
     let c = cond_some (tm_eq a.0.1 r.0.1) _ r.2 in
-    subst (λ (x : Goals). ArePropositions x.subgoals) (cc (c.1)) (placed_propositions i n th s a.0 r.0 a.1 r.1 d f)
+    let q : placed s th a.0 r.0.0 ≡ t = cc (c.1) in
+    subst (λ (x : Goals). ArePropositions x.subgoals) q (placed_propositions i n th s a.0 r.0 a.1 r.1 d f)
 
 -- ---- instances
 pub instance_implies : (n : Instance) (ps : List Tm) (c : Tm) → instance_of n (implies ps c) ≡ implies (map (instance_of n) ps) (instance_of n c)
