@@ -65,3 +65,11 @@ ReducedFollows = (ax : List Tm) (s t : Goals) → IsNormalState s → Reduces ax
 -- what follows from a state that another reduces to follows from that one
 abbrev pub ReducesFollows : Type 0
 ReducesFollows = (ax : List Tm) (s t u : Goals) → IsStanding u → Reduces ax s t → Follows ax t u → Follows ax s u
+
+-- what follows from a state that follows from another follows from that one
+abbrev pub FollowsInTurn : Type 0
+FollowsInTurn = (ax : List Tm) (s t u : Goals) → IsStanding s → IsStanding t → IsStanding u → Follows ax s t → Follows ax t u → Follows ax s u
+
+-- what follows by some axioms follows by more
+abbrev pub FollowsByMore : Type 0
+FollowsByMore = (ax bx : List Tm) (s t : Goals) → Within ax bx → Follows ax s t → Follows bx s t
