@@ -121,7 +121,7 @@ unknowns_known typ n (App f a) h k e = go (either_true (stands k f) (stands k a)
     go (inl d) p q = p d
     go (inr d) p q = q d
 
-given_known : (typ : Sig) (n : ℕ) (es : List Equation) → AreGiven typ n es → (k : Key) → occurs k es ≡ true → KnownKey typ n k
+pub given_known : (typ : Sig) (n : ℕ) (es : List Equation) → AreGiven typ n es → (k : Key) → occurs k es ≡ true → KnownKey typ n k
 given_known typ n [] g k h = absurd (cc)
 given_known typ n (e ∷ es) g k h = go (either_true (stands k e.left) (stands k e.right || occurs k es) h) (λ d. given_known typ n es g.1 k d)
   where
@@ -138,7 +138,7 @@ given_sided typ n [] g = tt
 given_sided typ n (e ∷ es) g =
     (record { left_type = g.0.left_type; right_type = g.0.right_type; left = typed_of_type (types_in e.binders) e.left g.0.left_type g.0.left; right = typed_of_type (types_in e.binders) e.right g.0.right_type g.0.right }, given_sided typ n es g.1)
 
-given_normal : (typ : Sig) (n : ℕ) (es : List Equation) → AreGiven typ n es → AllNormal es
+pub given_normal : (typ : Sig) (n : ℕ) (es : List Equation) → AreGiven typ n es → AllNormal es
 given_normal typ n [] g = tt
 given_normal typ n (e ∷ es) g = ((g.0.left_normal, g.0.right_normal), given_normal typ n es g.1)
 
@@ -161,7 +161,7 @@ given_typed typ n s (e ∷ es) g u =
     )
 
 -- ---- instances by entries
-solution_holds : (typ : Sig) (n : ℕ) (r : Instance) → KeepsTypes r → (es : List Equation) → AreGiven typ n es → MakesEqual r es → EachHolds r.types (values_of r.types r.terms) es × Unifies r.types (all_types es)
+pub solution_holds : (typ : Sig) (n : ℕ) (r : Instance) → KeepsTypes r → (es : List Equation) → AreGiven typ n es → MakesEqual r es → EachHolds r.types (values_of r.types r.terms) es × Unifies r.types (all_types es)
 solution_holds typ n r k [] g m = (tt, tt)
 solution_holds typ n r k (e ∷ es) g m =
     let d = given_sided typ n (e ∷ es) g in

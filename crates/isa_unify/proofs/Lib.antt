@@ -37,3 +37,5 @@ pub mod Leading
 pub mod Stepping
 pub mod Fronts
 pub mod General
+pub mod Asked
+pub mod YesAnswers

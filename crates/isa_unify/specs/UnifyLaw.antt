@@ -5,6 +5,8 @@ use Rattle.isa_terms.specs.Terms.{Tm, Const, Free, Unknown, Bound, Abs, App, bar
 use Rattle.isa_terms.specs.Typing.{type_at}
 use Rattle.isa_terms.specs.Normal.{IsNormal}
 use Rattle.isa_terms.specs.Instance.{Instance, instance_of}
+use Rattle.isa_terms.specs.declared.inst.TypeEntry.{TypeEntry}
+use Rattle.isa_terms.specs.declared.inst.TermEntry.{TermEntry}
 use Rattle.isa_conversion.specs.Instances.{KeepsTypes, IsFollowed}
 use Rattle.isa_unify.specs.declared.equation.Equation.{Equation}
 use Rattle.isa_unify.specs.declared.progress.Answer.{Answer}
@@ -62,3 +64,9 @@ HaveNone es = (r : Instance) → KeepsTypes r → MakesEqual r es → ⊥
 -- the answer No is right
 abbrev pub NoIsRight : Type 0
 NoIsRight = (typ : List ℕ → ℕ → Ty) (n : ℕ) (es : List Equation) → AreGiven typ n es → unify es n ≡ No → HaveNone es
+
+-- the answer Yes is right: its instance makes the sides equal, and is most general
+abbrev pub YesIsRight : Type 0
+YesIsRight =
+    (typ : List ℕ → ℕ → Ty) (n : ℕ) (es : List Equation) → AreGiven typ n es →
+    (ts : List TypeEntry) (fs : List TermEntry) (m : ℕ) → unify es n ≡ Yes ts fs m → IsMostGeneralFor es (record { types = ts; terms = fs })

@@ -1,7 +1,7 @@
 //! Laws of the definitions.
 
 ghost use Rattle.isa_unify.specs.Laws.{UnificationEnds, ClashesEnd};
-ghost use Rattle.isa_unify.specs.UnifyLaw.{NoIsRight};
+ghost use Rattle.isa_unify.specs.UnifyLaw.{NoIsRight, YesIsRight};
 
 /// The steps of unification end, and the walk that looks for clashes does; no bound in their
 /// definitions is ever met.
@@ -14,4 +14,11 @@ pub fn unification_ends()
 #[tactic(auto, using(crate::proofs::General::no_is_right))]
 pub fn no_is_right()
     ensures { NoIsRight }
+{}
+
+/// Where unification answers Yes, its instance makes the sides equal, and each instance that does is
+/// it, followed by another.
+#[tactic(auto, using(crate::proofs::YesAnswers::yes_is_right))]
+pub fn yes_is_right()
+    ensures { YesIsRight }
 {}
