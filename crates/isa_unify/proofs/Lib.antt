@@ -39,3 +39,4 @@ pub mod Fronts
 pub mod General
 pub mod Asked
 pub mod YesAnswers
+pub mod Right

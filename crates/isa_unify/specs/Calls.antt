@@ -10,6 +10,7 @@ use Rattle.isa_unify.specs.declared.unification.TermPair.{TermPair}
 use Rattle.isa_unify.specs.declared.unification.Unified.{Unified}
 use Rattle.isa_unify.specs.declared.unification.Unified.TheVariants.{Yes, No, Outside}
 use Rattle.isa_unify.specs.declared.progress.Answer.{Answer}
+use Rattle.isa_unify.specs.UnifyLaw.{IsMostGeneralFor, HaveNone}
 use Rattle.isa_unify.specs.declared.progress.Answer.TheVariants as answer
 use Rattle.isa_terms.specs.Entries.{Once}
 use Rattle.isa_terms.specs.Instance.{same_type_unknown, same_unknown}
@@ -57,3 +58,11 @@ Answers (Ok (Yes s)) old new wanted = wanted ≡ answer.Yes s.types s.terms new
 Answers (Ok No) old new wanted = (wanted ≡ answer.No) × (new ≡ old)
 Answers (Ok Outside) old new wanted = (wanted ≡ answer.Outside) × (new ≡ old)
 Answers (Err memory) old new wanted = new ≡ old
+
+-- The answer is right: at Yes the instance makes the sides equal, and each instance that does is it, followed by
+-- another; at No no instance does.
+abbrev pub IsRight : Result Unified AllocError → List Equation → Type 0
+IsRight (Ok (Yes s)) es = IsMostGeneralFor es s
+IsRight (Ok No) es = HaveNone es
+IsRight (Ok Outside) es = Unit {0}
+IsRight (Err memory) es = Unit {0}

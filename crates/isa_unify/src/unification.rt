@@ -1,9 +1,11 @@
 //! Unification of terms.
 
-ghost use Rattle.std.specs.Prelude.{◌≡◌, [], IfOk};
+ghost use Rattle.std.specs.Prelude.{◌≡◌, ℕ, List, [], IfOk};
+ghost use Rattle.isa_terms.specs.Types.{Ty};
 ghost use Rattle.isa_unify.specs.TypeStacks.{stack_of};
 ghost use Rattle.isa_unify.specs.Unification.{asked_types, asked_terms, all_types, start, unless_clash, answer_at, unify};
-ghost use Rattle.isa_unify.specs.Calls.{equation, equations_of, type_if_any, AreOnce, Answers};
+ghost use Rattle.isa_unify.specs.Calls.{equation, equations_of, type_if_any, AreOnce, Answers, IsRight};
+ghost use Rattle.isa_unify.specs.UnifyLaw.{AreGiven};
 
 use crate::asking::{add_types, add_unknowns};
 use crate::clashing::clashes;
@@ -166,14 +168,9 @@ fn inst_of(alloc: Global, types: &TypeEntries, terms: &TermEntries) -> Result<In
     Ok(inst)
 }
 
-/// Unifies the pairs, the first one first. New unknowns are numbered from `fresh` on, which goes
-/// on behind them where there is a unifier, and stays else.
+/// What unification of the pairs answers, and where `fresh` goes on.
 #[tactic(auto, using(crate::proofs::Once::unify_once))]
-pub fn unify_pairs(
-    alloc: Global,
-    pairs: &[TermPair],
-    fresh: &mut Fresh,
-) -> Result<Unified, AllocError>
+fn answer_pairs(alloc: Global, pairs: &[TermPair], fresh: &mut Fresh) -> Result<Unified, AllocError>
     ensures { Answers result fresh.old fresh.new (unify (equations_of pairs.now) fresh.old) }
 {
     match answer_of(alloc, pairs, fresh.number())? {
@@ -187,8 +184,8 @@ pub fn unify_pairs(
     }
 }
 
-/// Unifies two terms; the left one is the rule's.
-pub fn unify(
+/// The same of two terms.
+fn answer_two(
     alloc: Global,
     left: &Term,
     right: &Term,
@@ -200,5 +197,33 @@ pub fn unify(
         left: left.copy()?,
         right: right.copy()?,
     }];
-    unify_pairs(alloc, &pair, fresh)
+    answer_pairs(alloc, &pair, fresh)
+}
+
+/// Unifies the pairs, the first one first. New unknowns are numbered from `fresh` on, which goes
+/// on behind them where there is a unifier, and stays else. For well-typed normal terms whose
+/// unknowns stand at one type each, with numbers below `fresh`, the instance is most general, and
+/// `No` means that there is none.
+pub fn unify_pairs(
+    alloc: Global,
+    pairs: &[TermPair],
+    fresh: &mut Fresh,
+) -> Result<Unified, AllocError>
+    ensures answer { Answers result fresh.old fresh.new (unify (equations_of pairs.now) fresh.old) }
+    ensures right { (typ : List ℕ → ℕ → Ty) → AreGiven typ fresh.old (equations_of pairs.now) → IsRight result (equations_of pairs.now) }
+{
+    answer_pairs(alloc, pairs, fresh)
+}
+
+/// Unifies two terms; the left one is the rule's. All that is said of `unify_pairs` holds.
+pub fn unify(
+    alloc: Global,
+    left: &Term,
+    right: &Term,
+    fresh: &mut Fresh,
+) -> Result<Unified, AllocError>
+    ensures answer { Answers result fresh.old fresh.new (unify (equation left.now right.now) fresh.old) }
+    ensures right { (typ : List ℕ → ℕ → Ty) → AreGiven typ fresh.old (equation left.now right.now) → IsRight result (equation left.now right.now) }
+{
+    answer_two(alloc, left, right, fresh)
 }
