@@ -22,8 +22,8 @@ mod tests;
 mod types;
 mod unification;
 
-pub use matching::{match_pattern, match_patterns};
 pub use fresh::Fresh;
 pub use laws::unification_ends;
+pub use matching::{match_pattern, match_patterns};
 pub use types::{TypePair, unify_type_pairs, unify_types};
 pub use unification::{TermPair, Unified, unify, unify_pairs};
