@@ -21,7 +21,6 @@ mod types;
 mod unification;
 
 pub use fresh::Fresh;
-pub use laws::unification_ends;
 pub use laws::{no_is_right, unification_ends};
 pub use matching::{match_pattern, match_patterns};
 pub use types::{TypePair, unify_type_pairs, unify_types};
