@@ -2,7 +2,7 @@
 use Rattle.std.proofs.Common.{◌≡◌, ℕ, zero, suc, ◌+◌, ◌-◌, ◌^◌, ◌%◌, ◌&&◌, min, nat_lt, nat_le, Bool, true, false, if◌then◌else◌, refl}
 use Rattle.isa_seq.specs.declared.event.Event.TheVariants.{Tick, Outside, Res}
 use Rattle.isa_seq.specs.Traces.{Trace, IsTrace, nothing, event}
-use Rattle.isa_seq.specs.Meaning.{Meaning, IsMeaning}
+use Rattle.isa_seq.specs.Meaning.{IsMeaning}
 use Rattle.isa_seq.proofs.Laws.{nothing-steps, event-is_trace, choice-steps}
 use Rattle.isa_seq_numbers.specs.declared.prims.Step.{Step}
 use Rattle.isa_seq_numbers.specs.declared.prims.Step.TheVariants.{Solve, Climb, Stray}

@@ -1,5 +1,5 @@
 -- What the primitives on numbers mean.
-use Rattle.std.specs.Prelude.{◌≡◌, ℕ, zero, suc, ◌+◌, ◌-◌, ◌^◌, ◌%◌, ◌==◌, ◌&&◌, min, nat_lt, nat_le, Bool, true, false, if◌then◌else◌}
+use Rattle.std.specs.Prelude.{ℕ, zero, suc, ◌+◌, ◌-◌, ◌^◌, ◌%◌, ◌==◌, ◌&&◌, min, nat_lt, nat_le, Bool, true, false, if◌then◌else◌}
 use Rattle.isa_seq.specs.declared.event.Event.TheVariants.{Tick, Outside, Res}
 use Rattle.isa_seq.specs.Traces.{Trace, nothing, event}
 use Rattle.isa_seq.specs.Meaning.{Meaning}
