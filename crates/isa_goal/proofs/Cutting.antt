@@ -6,14 +6,16 @@ use Rattle.isa_terms.specs.Equal.{tm_eq}
 use Rattle.isa_terms.specs.Sets.{has, missing, joined, without}
 use Rattle.isa_terms.specs.Typing.{HasType}
 use Rattle.isa_kernel.specs.Logic.{prop, imp, IsProposition}
+use Rattle.isa_kernel.specs.declared.axioms.NamedProp.{NamedProp}
+use Rattle.isa_kernel.specs.Axioms.{joined_bases}
 use Rattle.isa_kernel.specs.Derivation.{Member, Within}
 use Rattle.isa_kernel.specs.Theorem.{Theorem}
 use Rattle.isa_kernel.specs.Inferences.{has_type, assumed, implies_introduced, implies_eliminated}
 use Rattle.isa_conversion.proofs.Functions.{cond_some}
 use Rattle.isa_kernel.proofs.Members.{Member-left, Member-right, Member-split, Within-append, Member-without}
 use Rattle.isa_goal.specs.Goals.{Goals, implies, theorem_of, Proves}
-use Rattle.isa_goal.specs.Steps.{eliminated, introduced, cut}
-use Rattle.isa_goal.proofs.Deriving.{tm_eq_same, has_type_of, ArePropositions, propositions_append, implies_append}
+use Rattle.isa_goal.specs.Steps.{eliminated, introduced, cut, met_under, raised}
+use Rattle.isa_goal.proofs.Deriving.{tm_eq_same, has_type_of, ArePropositions, implies_append, implies_proposition, propositions_under}
 
 pub theorem_same : (a b : Theorem) → a.hyps ≡ b.hyps → a.prop ≡ b.prop → a.base ≡ b.base → a ≡ b
 theorem_same a b h p e = λ i. record { hyps = h i; prop = p i; base = e i }
@@ -40,17 +42,17 @@ abbrev pub fewer_hyps : List Tm → List Tm → List Tm
 fewer_hyps [] H = H
 fewer_hyps (p ∷ ps) H = without p (fewer_hyps ps H)
 
-pub eliminated_is : (ps H B : List Tm) (q : Tm) → ArePropositions ps → eliminated ps (record { hyps = H; prop = implies ps q; base = B }) ≡ Some (record { hyps = more_hyps H ps; prop = q; base = B })
+pub eliminated_is : (ps H : List Tm) (B : List NamedProp) (q : Tm) → ArePropositions ps → eliminated ps (record { hyps = H; prop = implies ps q; base = B }) ≡ Some (record { hyps = more_hyps H ps; prop = q; base = B })
 unfolding eliminated
 eliminated_is [] H B q w = refl
 eliminated_is (p ∷ ps) H B q w =
     let th : Theorem = record { hyps = H; prop = imp p (implies ps q); base = B } in
     ap (λ b. option_and_then (λ a. option_and_then (λ n. eliminated ps n) (implies_eliminated th a)) (cond b (Some (record { hyps = p ∷ []; prop = p; base = [] })) None)) (has_type_of p w.0)
-    ∙ ap (λ b. option_and_then (λ n. eliminated ps n) (cond b (Some (record { hyps = joined H (p ∷ []); prop = implies ps q; base = joined B [] })) None)) (tm_eq_same p)
+    ∙ ap (λ b. option_and_then (λ n. eliminated ps n) (cond b (Some (record { hyps = joined H (p ∷ []); prop = implies ps q; base = joined_bases B [] })) None)) (tm_eq_same p)
     ∙ ap (λ C. eliminated ps (record { hyps = joined H (p ∷ []); prop = implies ps q; base = C })) (append-nil B)
     ∙ eliminated_is ps (joined H (p ∷ [])) B q w.1
 
-pub introduced_is : (ps H B : List Tm) (q : Tm) → ArePropositions ps → introduced ps (record { hyps = H; prop = q; base = B }) ≡ Some (record { hyps = fewer_hyps ps H; prop = implies ps q; base = B })
+pub introduced_is : (ps H : List Tm) (B : List NamedProp) (q : Tm) → ArePropositions ps → introduced ps (record { hyps = H; prop = q; base = B }) ≡ Some (record { hyps = fewer_hyps ps H; prop = implies ps q; base = B })
 unfolding introduced
 introduced_is [] H B q w = refl
 introduced_is (p ∷ ps) H B q w =
@@ -91,28 +93,73 @@ none_left (t ∷ ts) h = absurd (h t (inl refl))
 pub fewer_none : (ps H : List Tm) → Within H ps → fewer_hyps ps H ≡ []
 fewer_none ps H w = none_left (fewer_hyps ps H) (λ t m. let r = fewer_member ps H t m in let no : tm_eq t t ≡ false = r.1 t (w t r.0) in let yes : tm_eq t t ≡ true = tm_eq_same t in absurd (cc))
 
+fewer_append : (ps qs H : List Tm) → fewer_hyps ps (fewer_hyps qs H) ≡ fewer_hyps (ps ++ qs) H
+fewer_append [] qs H = refl
+fewer_append (p ∷ ps) qs H = ap (without p) (fewer_append ps qs H)
+
+two_none : (ps qs H : List Tm) → Within H (ps ++ qs) → fewer_hyps ps (fewer_hyps qs H) ≡ []
+two_none ps qs H w = fewer_append ps qs H ∙ fewer_none (ps ++ qs) H w
+
 -- a rule's premises come in the place of the subgoal that its conclusion equals
-pub cut_is : (us bs vs B C : List Tm) (a r c : Tm) → ArePropositions us → ArePropositions bs → ArePropositions vs → tm_eq a r ≡ true →
-    cut us bs vs (record { hyps = []; prop = implies (us ++ (a ∷ vs)) c; base = B }) (record { hyps = []; prop = implies bs r; base = C })
-    ≡ Some (record { hyps = []; prop = implies (us ++ (bs ++ vs)) c; base = joined B C })
+pub cut_is : (us bs vs : List Tm) (B C : List NamedProp) (a r c : Tm) → ArePropositions us → ArePropositions bs → tm_eq a r ≡ true →
+    cut us bs (record { hyps = []; prop = implies (us ++ (a ∷ vs)) c; base = B }) (record { hyps = []; prop = implies bs r; base = C })
+    ≡ Some (record { hyps = []; prop = implies (us ++ (bs ++ vs)) c; base = joined_bases B C })
 unfolding cut
-cut_is us bs vs B C a r c wu wb wv e =
-    let news : List Tm = us ++ (bs ++ vs) in
+cut_is us bs vs B C a r c wu wb e =
     let K : List Tm = joined (more_hyps [] us) (more_hyps [] bs) in
-    let in_us : Within us news = λ t m. Member-left t us (bs ++ vs) m in
-    let in_bs : Within bs news = λ t m. Member-right t us (bs ++ vs) (Member-left t bs vs m) in
-    let in_vs : Within vs news = λ t m. Member-right t us (bs ++ vs) (Member-right t bs vs m) in
-    let k_in : Within K news = joined_within (more_hyps [] us) (more_hyps [] bs) news (more_within [] us news (λ t m. absurd m) in_us) (more_within [] bs news (λ t m. absurd m) in_bs) in
+    let k_in : Within K (us ++ bs) = joined_within (more_hyps [] us) (more_hyps [] bs) (us ++ bs)
+    (more_within [] us (us ++ bs) (λ t m. absurd m) (λ t m. Member-left t us bs m))
+    (more_within [] bs (us ++ bs) (λ t m. absurd m) (λ t m. Member-right t us bs m)) in
     let rule : Theorem = record { hyps = []; prop = implies bs r; base = C } in
-    let tail = λ (x : Theorem). option_and_then (λ back. introduced news back) (eliminated vs x) in
-    let late = λ (x : Theorem). option_and_then (λ met. option_and_then tail (implies_eliminated x met)) (eliminated bs rule) in
+    let last = λ (x : Theorem). option_and_then (λ inner. introduced us inner) (introduced bs x) in
+    let late = λ (x : Theorem). option_and_then (λ met. option_and_then last (implies_eliminated x met)) (eliminated bs rule) in
     ap (λ p. option_and_then late (eliminated us (record { hyps = []; prop = p; base = B }))) (implies_append us (a ∷ vs) c)
     ∙ ap (λ o. option_and_then late o) (eliminated_is us [] B (imp a (implies vs c)) wu)
-    ∙ ap (λ o. option_and_then (λ met. option_and_then tail (implies_eliminated (record { hyps = more_hyps [] us; prop = imp a (implies vs c); base = B }) met)) o) (eliminated_is bs [] C r wb)
-    ∙ ap (λ b. option_and_then tail (cond b (Some (record { hyps = K; prop = implies vs c; base = joined B C })) None)) e
-    ∙ ap (λ o. option_and_then (λ back. introduced news back) o) (eliminated_is vs K (joined B C) c wv)
-    ∙ introduced_is news (more_hyps K vs) (joined B C) c (propositions_append us (bs ++ vs) wu (propositions_append bs vs wb wv))
-    ∙ ap (λ H. Some (record { hyps = H; prop = implies news c; base = joined B C })) (fewer_none news (more_hyps K vs) (more_within K vs news k_in in_vs))
+    ∙ ap (λ o. option_and_then (λ met. option_and_then last (implies_eliminated (record { hyps = more_hyps [] us; prop = imp a (implies vs c); base = B }) met)) o) (eliminated_is bs [] C r wb)
+    ∙ ap (λ b. option_and_then last (cond b (Some (record { hyps = K; prop = implies vs c; base = joined_bases B C })) None)) e
+    ∙ ap (λ o. option_and_then (λ inner. introduced us inner) o) (introduced_is bs K (joined_bases B C) (implies vs c) wb)
+    ∙ introduced_is us (fewer_hyps bs K) (joined_bases B C) (implies bs (implies vs c)) wu
+    ∙ (λ i. Some (record { hyps = two_none us bs K k_in i; prop = (ap (implies us) (sym (implies_append bs vs c)) ∙ sym (implies_append us (bs ++ vs) c)) i; base = joined_bases B C }))
+
+-- ---- lifting over assumptions
+abbrev pub met_hyps : List Tm → List Tm → List Tm → List Tm
+met_hyps H hs [] = H
+met_hyps H hs (p ∷ ps) = met_hyps (joined H (more_hyps (implies hs p ∷ []) hs)) hs ps
+
+pub met_is : (hs ps H : List Tm) (B : List NamedProp) (q : Tm) → ArePropositions hs → ArePropositions ps → met_under hs ps (record { hyps = H; prop = implies ps q; base = B }) ≡ Some (record { hyps = met_hyps H hs ps; prop = q; base = B })
+unfolding met_under
+met_is hs [] H B q w v = refl
+met_is hs (p ∷ ps) H B q w v =
+    let th : Theorem = record { hyps = H; prop = imp p (implies ps q); base = B } in
+    let met : List Tm = more_hyps (implies hs p ∷ []) hs in
+    ap (λ b. option_and_then (λ a. option_and_then (λ m. option_and_then (λ n. met_under hs ps n) (implies_eliminated th m)) (eliminated hs a)) (cond b (Some (record { hyps = implies hs p ∷ []; prop = implies hs p; base = [] })) None)) (has_type_of (implies hs p) (implies_proposition hs p w v.0))
+    ∙ ap (λ o. option_and_then (λ m. option_and_then (λ n. met_under hs ps n) (implies_eliminated th m)) o) (eliminated_is hs (implies hs p ∷ []) [] p w)
+    ∙ ap (λ b. option_and_then (λ n. met_under hs ps n) (cond b (Some (record { hyps = joined H met; prop = implies ps q; base = joined_bases B [] })) None)) (tm_eq_same p)
+    ∙ ap (λ C. met_under hs ps (record { hyps = joined H met; prop = implies ps q; base = C })) (append-nil B)
+    ∙ met_is hs ps (joined H met) B q w v.1
+
+met_within : (H hs ps vs : List Tm) → Within H vs → Within hs vs → Within (map (implies hs) ps) vs → Within (met_hyps H hs ps) vs
+met_within H hs [] vs f g h = f
+met_within H hs (p ∷ ps) vs f g h =
+    met_within (joined H (more_hyps (implies hs p ∷ []) hs)) hs ps vs
+    (joined_within H (more_hyps (implies hs p ∷ []) hs) vs f (more_within (implies hs p ∷ []) hs vs (λ t m. h t (only t m)) g))
+    g (λ t m. h t (inr m))
+  where
+    only : (t : Tm) → Member t (implies hs p ∷ []) → Member t (implies hs p ∷ map (implies hs) ps)
+    only t (inl e) = inl e
+    only t (inr m) = absurd m
+
+-- the premises and the conclusion of a rule come under the assumptions
+pub raised_is : (hs ps : List Tm) (B : List NamedProp) (q : Tm) → ArePropositions hs → ArePropositions ps → raised hs ps (record { hyps = []; prop = implies ps q; base = B }) ≡ Some (record { hyps = []; prop = implies (map (implies hs) ps) (implies hs q); base = B })
+unfolding raised
+raised_is hs ps B q w v =
+    let K : List Tm = met_hyps [] hs ps in
+    let news : List Tm = map (implies hs) ps in
+    let k_in : Within K (news ++ hs) = met_within [] hs ps (news ++ hs) (λ t m. absurd m) (λ t m. Member-right t news hs m) (λ t m. Member-left t news hs m) in
+    ap (λ o. option_and_then (λ core. option_and_then (λ inner. introduced news inner) (introduced hs core)) o) (met_is hs ps [] B q w v)
+    ∙ ap (λ o. option_and_then (λ inner. introduced news inner) o) (introduced_is hs K B q w)
+    ∙ introduced_is news (fewer_hyps hs K) B (implies hs q) (propositions_under hs ps w v)
+    ∙ ap (λ H. Some (record { hyps = H; prop = implies news (implies hs q); base = B })) (two_none news hs K k_in)
 
 pub started_fits : (t g : Tm) (ss : List Tm) (a th : Theorem) → assumed t ≡ Some a → implies_introduced t a ≡ Some th → ss ≡ t ∷ [] → g ≡ t → Proves th (record { subgoals = ss; goal = g; base = th.base })
 started_fits t g ss a th e f s h = subst (λ x. Proves th (record { subgoals = x; goal = g; base = th.base })) (sym s) (subst (λ x. Proves th (record { subgoals = t ∷ []; goal = x; base = th.base })) (sym h) (started_proves t a th e f))

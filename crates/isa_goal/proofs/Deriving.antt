@@ -1,4 +1,5 @@
 -- Derivations with a list of hypotheses.
+use Rattle.std.specs.Prelude.{codes}
 use Rattle.std.proofs.Common.{◌≡◌, ◌⊎◌, inl, inr, List, [], ◌∷◌, ◌++◌, map, Bool, true, false, refl, sym, ap, ◌∙◌, subst}
 use Rattle.isa_terms.specs.Terms.{Tm, bare}
 use Rattle.isa_terms.specs.Equal.{tm_eq}
@@ -12,7 +13,7 @@ use Rattle.isa_kernel.specs.Inferences.{has_type, typed_as}
 use Rattle.isa_kernel.proofs.Members.{bares, Member-left, Member-right, Within-append, Member-without}
 use Rattle.isa_kernel.proofs.Rules.{tree_more}
 use Rattle.isa_kernel.proofs.Sound.{has_type_is}
-use Rattle.isa_conversion.proofs.Typed.{Typed, type_of_typed, typed_of_type}
+use Rattle.isa_conversion.proofs.Typed.{Typed, TConst, TApp, type_of_typed, typed_of_type}
 use Rattle.isa_kernel.proofs.Preserved.{derived_typed, imp_both}
 use Rattle.isa_goal.specs.Goals.{Goals, implies, IsStanding}
 
@@ -58,6 +59,15 @@ implies_bare (p ∷ ps) c = ap (imp (bare p)) (implies_bare ps c)
 pub implies_append : (ps qs : List Tm) (c : Tm) → implies (ps ++ qs) c ≡ implies ps (implies qs c)
 implies_append [] qs c = refl
 implies_append (p ∷ ps) qs c = ap (imp p) (implies_append ps qs c)
+
+-- a proposition under premises is one
+pub implies_proposition : (ps : List Tm) (c : Tm) → ArePropositions ps → IsProposition c → IsProposition (implies ps c)
+implies_proposition [] c w h = h
+implies_proposition (p ∷ ps) c w h = type_of_typed (TApp (TApp (TConst {x = codes "Pure.imp"}) (typed_of_type [] p prop w.0)) (typed_of_type [] (implies ps c) prop (implies_proposition ps c w.1 h)))
+
+pub propositions_under : (hs ps : List Tm) → ArePropositions hs → ArePropositions ps → ArePropositions (map (implies hs) ps)
+propositions_under hs [] w v = tt
+propositions_under hs (p ∷ ps) w v = (implies_proposition hs p w v.0, propositions_under hs ps w v.1)
 
 -- what is derived as `ps ==> c` is made of propositions
 pub derived_propositions : {ax H : List Tm} (ps : List Tm) (c : Tm) → Derives ax H (bare (implies ps c)) → ArePropositions ps × IsProposition c

@@ -3,36 +3,42 @@ use Rattle.std.proofs.Common.{◌≡◌, ◌⊎◌, inl, inr, ℕ, List, [], ◌
 use Rattle.isa_terms.specs.Types.{Ty, Tys, TyCon, TyFixed, TyUnknown, NoTys, MoreTys}
 use Rattle.isa_terms.specs.Terms.{Tm, Const, Free, Unknown, Bound, Abs, App, bare}
 use Rattle.isa_terms.specs.Equal.{tm_eq}
-use Rattle.isa_terms.specs.Instance.{inst_ty, inst_tys, inst_tm}
-use Rattle.isa_terms.specs.declared.inst.TypeEntry.{TypeEntry}
-use Rattle.isa_terms.specs.declared.inst.TermEntry.{TermEntry}
+use Rattle.isa_terms.specs.Instance.{Instance, instance_of, inst_ty, inst_tys, inst_tm, in_tms}
 use Rattle.isa_terms.proofs.Bare.{tm_decides, type_at_bare}
 use Rattle.isa_terms.specs.Norm.{norm}
 use Rattle.isa_terms.specs.Normal.{IsNormal}
-use Rattle.isa_kernel.specs.Logic.{prop, imp, IsProposition}
-use Rattle.isa_kernel.specs.Derivation.{Member, Within, Derives}
+use Rattle.isa_kernel.specs.Logic.{prop, imp, eq, IsProposition}
+use Rattle.isa_kernel.specs.Axioms.{propositions}
+use Rattle.isa_kernel.specs.declared.axioms.NamedProp.{NamedProp}
+use Rattle.isa_kernel.specs.Derivation.{Member, Within, Tree, EqualElim, Derives}
+use Rattle.isa_kernel.specs.Derivation as derivation
 use Rattle.isa_kernel.specs.Theorem.{Theorem, IsDerived}
 use Rattle.isa_kernel.specs.Inferences.{keeps, instantiated}
 use Rattle.isa_conversion.proofs.Functions.{bind_some, cond_some}
 use Rattle.isa_kernel.proofs.Members.{bares, Member-left, Member-right}
-use Rattle.isa_kernel.proofs.Instances.{instantiated_sound}
+use Rattle.isa_kernel.proofs.Instances.{bare_entries, inst_bare, kept, in_tms_false}
+use Rattle.isa_kernel.proofs.Closed.{norm_tree}
+use Rattle.isa_kernel.proofs.Rules.{tree_more}
+use Rattle.isa_kernel.proofs.Preserved.{derived_typed}
+use Rattle.isa_conversion.proofs.Typed.{type_of_typed}
+use Rattle.isa_terms.specs.Typing.{HasType}
 use Rattle.isa_conversion.proofs.Normal.{norm_same}
 use Rattle.isa_goal.specs.Goals.{Goals, implies, IsStanding, around, rule_form, refined}
-use Rattle.isa_goal.specs.Follows.{instance, Each, Follows, Reduces, instanced, IsNormalState}
+use Rattle.isa_goal.specs.Follows.{Each, Follows, Reduces, instanced, IsNormalState}
 use Rattle.isa_goal.proofs.Deriving.{ArePropositions, propositions_append, propositions_left, propositions_right, propositions_bare, propositions_member, implies_bare, derived_propositions, derive_more, derive_assume, derive_intros, derive_elims}
 use Rattle.isa_goal.proofs.Refining.{around_made, rule_made, standing_propositions, rule_propositions, placed}
 
 -- ---- derivations of `ps ==> q`
-abbrev From : List Tm → List Tm → Tm → Type 0
-From ax ps q = Derives (bares ax) [] (bare (implies ps q))
+abbrev pub From : List Tm → List Tm → Tm → Type 0
+From ax ps q = Derives ax [] (bare (implies ps q))
 
 -- q follows from the ps where it follows from each list of hypotheses that has them
-from_all : (ax ps : List Tm) (q : Tm) → ArePropositions ps → ((G : List Tm) → Within (bares ps) G → Derives (bares ax) G (bare q)) → From ax ps q
-from_all ax ps q w h = subst (λ p. Derives (bares ax) [] p) (sym (implies_bare ps q)) (derive_intros (bares ps) [] (bare q) (propositions_bare ps w) (λ G f g. h G f))
+pub from_all : (ax ps : List Tm) (q : Tm) → ArePropositions ps → ((G : List Tm) → Within (bares ps) G → Derives ax G (bare q)) → From ax ps q
+from_all ax ps q w h = subst (λ p. Derives ax [] p) (sym (implies_bare ps q)) (derive_intros (bares ps) [] (bare q) (propositions_bare ps w) (λ G f g. h G f))
 
 -- under hypotheses that have the ps
-under : (ax ps : List Tm) (q : Tm) (G : List Tm) → From ax ps q → ((r : Tm) → Member r (bares ps) → Derives (bares ax) G r) → Derives (bares ax) G (bare q)
-under ax ps q G d h = derive_elims (bares ps) (bare q) (subst (λ p. Derives (bares ax) G p) (implies_bare ps q) (derive_more (λ r m. m) (λ r m. absurd m) d)) h
+pub under : (ax ps : List Tm) (q : Tm) (G : List Tm) → From ax ps q → ((r : Tm) → Member r (bares ps) → Derives ax G r) → Derives ax G (bare q)
+under ax ps q G d h = derive_elims (bares ps) (bare q) (subst (λ p. Derives ax G p) (implies_bare ps q) (derive_more (λ r m. m) (λ r m. absurd m) d)) h
 
 bare_member : (t : Tm) (ts : List Tm) → Member t ts → Member (bare t) (bares ts)
 bare_member t [] m = absurd m
@@ -40,14 +46,14 @@ bare_member t (u ∷ us) (inl e) = inl (ap bare e)
 bare_member t (u ∷ us) (inr m) = inr (bare_member t us m)
 
 -- each of the premises follows from them all
-itself : (ax ps : List Tm) (q : Tm) → ArePropositions ps → Member q ps → From ax ps q
+pub itself : (ax ps : List Tm) (q : Tm) → ArePropositions ps → Member q ps → From ax ps q
 itself ax ps q w m = from_all ax ps q w (λ G f. derive_assume G (bare q) (f (bare q) (bare_member q ps m)) (type_at_bare [] q ∙ propositions_member ps q w m))
 
-each_of : {P : Tm → Type 0} (ts : List Tm) → ((t : Tm) → Member t ts → P t) → Each P ts
+pub each_of : {P : Tm → Type 0} (ts : List Tm) → ((t : Tm) → Member t ts → P t) → Each P ts
 each_of [] h = tt
 each_of (t ∷ ts) h = (h t (inl refl), each_of ts (λ u m. h u (inr m)))
 
-of_each : (P : Tm → Type 0) (ts : List Tm) → Each P ts → (t : Tm) → Member t ts → P t
+pub of_each : (P : Tm → Type 0) (ts : List Tm) → Each P ts → (t : Tm) → Member t ts → P t
 of_each P [] e t m = absurd m
 of_each P (u ∷ us) e t (inl q) = subst P (sym q) e.0
 of_each P (u ∷ us) e t (inr m) = of_each P us e.1 t m
@@ -71,7 +77,7 @@ module _ (ax us bs vs : List Tm) (a r : Tm) (ws : ArePropositions (us ++ (bs ++ 
   -- the subgoal that the rule concludes
   met : (x : Tm) → x ≡ a → From ax (us ++ (bs ++ vs)) x
   met x e = from_all ax (us ++ (bs ++ vs)) x ws (λ G h.
-      subst (λ p. Derives (bares ax) G p) (sym same ∙ ap bare (sym e))
+      subst (λ p. Derives ax G p) (sym same ∙ ap bare (sym e))
       (under ax bs r G rule (λ q m. derive_assume G q (h q (bares_back us (bs ++ vs) q (bares_front bs vs q m))) (propositions_member (bares bs) q (propositions_bare bs wb) m))))
 
   -- each of the old subgoals
@@ -81,7 +87,13 @@ module _ (ax us bs vs : List Tm) (a r : Tm) (ws : ArePropositions (us ++ (bs ++ 
     | inr k ↦ elim k [ inl e ↦ met x e | inr n ↦ itself ax (us ++ (bs ++ vs)) x ws (Member-right x us (bs ++ vs) (Member-right x bs vs n)) ]
   ]
 
-placed_reduces : (i n : ℕ) (th : Theorem) (s : Goals) (at : List Tm × Tm × List Tm) (parts : List Tm × Tm) → around i s.subgoals ≡ Some at → rule_form n th ≡ Some parts → bare at.1 ≡ bare parts.1 → IsStanding s → IsDerived th → Reduces th.base s (placed s th at parts.0)
+placed_propositions : (i n : ℕ) (th : Theorem) (s : Goals) (at : List Tm × Tm × List Tm) (parts : List Tm × Tm) → around i s.subgoals ≡ Some at → rule_form n th ≡ Some parts → IsStanding s → IsDerived th → ArePropositions (at.0 ++ (parts.0 ++ at.2))
+placed_propositions i n th s at parts a r d f =
+    let all : ArePropositions (at.0 ++ (at.1 ∷ at.2)) = subst (λ ts. ArePropositions ts) (around_made i s.subgoals at a) (standing_propositions s d) in
+    propositions_append at.0 (parts.0 ++ at.2) (propositions_left at.0 (at.1 ∷ at.2) all)
+    (propositions_append parts.0 at.2 (rule_propositions n th parts r f) (propositions_right at.0 (at.1 ∷ at.2) all).1)
+
+placed_reduces : (i n : ℕ) (th : Theorem) (s : Goals) (at : List Tm × Tm × List Tm) (parts : List Tm × Tm) → around i s.subgoals ≡ Some at → rule_form n th ≡ Some parts → bare at.1 ≡ bare parts.1 → IsStanding s → IsDerived th → Reduces (propositions th.base) s (placed s th at parts.0)
 placed_reduces i n th s at parts a r same d f =
     let here = around_made i s.subgoals at a in
     let all : ArePropositions (at.0 ++ (at.1 ∷ at.2)) = subst (λ ts. ArePropositions ts) here (standing_propositions s d) in
@@ -90,40 +102,55 @@ placed_reduces i n th s at parts a r same d f =
     let bs : ArePropositions parts.0 = rule_propositions n th parts r f in
     let news : List Tm = at.0 ++ (parts.0 ++ at.2) in
     let ws : ArePropositions news = propositions_append at.0 (parts.0 ++ at.2) us (propositions_append parts.0 at.2 bs vs.1) in
-    let rule : From th.base parts.0 parts.1 = subst (λ (x : Theorem). Derives (bares th.base) (bares x.hyps) (bare x.prop)) (rule_made n th parts r) f.derivation in
+    let rule : From (propositions th.base) parts.0 parts.1 = subst (λ (x : Theorem). Derives (propositions th.base) (bares x.hyps) (bare x.prop)) (rule_made n th parts r) f.derivation in
     record {
       goal = refl;
-      subgoals = subst (λ ts. Each (λ x. From th.base news x) ts) (sym here) (each_of (at.0 ++ (at.1 ∷ at.2)) (old th.base at.0 parts.0 at.2 at.1 parts.1 ws bs same rule));
+      subgoals = subst (λ ts. Each (λ x. From (propositions th.base) news x) ts) (sym here) (each_of (at.0 ++ (at.1 ∷ at.2)) (old (propositions th.base) at.0 parts.0 at.2 at.1 parts.1 ws bs same rule));
     }
 
-pub refined_reduces : (i n : ℕ) (th : Theorem) (s t : Goals) → refined i th n s ≡ Some t → IsStanding s → IsDerived th → Reduces th.base s t
+pub refined_reduces : (i n : ℕ) (th : Theorem) (s t : Goals) → refined i th n s ≡ Some t → IsStanding s → IsDerived th → Reduces (propositions th.base) s t
 refined_reduces i n th s t e d f =
     let a = bind_some (around i s.subgoals) _ e in
     let r = bind_some (rule_form n th) _ a.2 in
     let c = cond_some (tm_eq a.0.1 r.0.1) _ r.2 in
-    subst (λ x. Reduces th.base s x) (cc (c.1)) (placed_reduces i n th s a.0 r.0 a.1 r.1 ((tm_decides a.0.1 r.0.1).0 c.0) d f)
+    subst (λ x. Reduces (propositions th.base) s x) (cc (c.1)) (placed_reduces i n th s a.0 r.0 a.1 r.1 ((tm_decides a.0.1 r.0.1).0 c.0) d f)
+
+pub refined_propositions : (i n : ℕ) (th : Theorem) (s t : Goals) → refined i th n s ≡ Some t → IsStanding s → IsDerived th → ArePropositions t.subgoals
+refined_propositions i n th s t e d f =
+    let a = bind_some (around i s.subgoals) _ e in
+    let r = bind_some (rule_form n th) _ a.2 in
+    let c = cond_some (tm_eq a.0.1 r.0.1) _ r.2 in
+    let q : placed s th a.0 r.0.0 ≡ t = cc (c.1) in
+    subst (λ (x : Goals). ArePropositions x.subgoals) q (placed_propositions i n th s a.0 r.0 a.1 r.1 d f)
 
 -- ---- instances
-pub instance_implies : (es : List TypeEntry) (fs : List TermEntry) (ps : List Tm) (c : Tm) → instance es fs (implies ps c) ≡ implies (map (instance es fs) ps) (instance es fs c)
-instance_implies es fs [] c = refl
-instance_implies es fs (p ∷ ps) c = ap (imp (instance es fs p)) (instance_implies es fs ps c)
+pub instance_implies : (n : Instance) (ps : List Tm) (c : Tm) → instance_of n (implies ps c) ≡ implies (map (instance_of n) ps) (instance_of n c)
+instance_implies n [] c = refl
+instance_implies n (p ∷ ps) c = ap (imp (instance_of n p)) (instance_implies n ps c)
 
-pub instantiated_is : (es : List TypeEntry) (fs : List TermEntry) (p : Tm) (B : List Tm) → keeps es fs ≡ true → instantiated es fs (record { hyps = []; prop = p; base = B }) ≡ Some (record { hyps = []; prop = instance es fs p; base = B })
-instantiated_is es fs p B k = ap (λ b. cond (b && true) (Some (record { hyps = []; prop = instance es fs p; base = B })) None) k
+pub instantiated_is : (n : Instance) (p : Tm) (B : List NamedProp) → keeps n.types n.terms ≡ true → instantiated n (record { hyps = []; prop = p; base = B }) ≡ Some (record { hyps = []; prop = instance_of n p; base = B })
+instantiated_is n p B k = ap (λ b. cond (b && true) (Some (record { hyps = []; prop = instance_of n p; base = B })) None) k
 
-from_instance : (ax : List Tm) (es : List TypeEntry) (fs : List TermEntry) (ps : List Tm) (q : Tm) → keeps es fs ≡ true → From ax ps q → From ax (map (instance es fs) ps) (instance es fs q)
-from_instance ax es fs ps q k d =
-    let th : IsDerived (record { hyps = []; prop = instance es fs (implies ps q); base = ax }) = instantiated_sound es fs (record { hyps = []; prop = implies ps q; base = ax }) _ (instantiated_is es fs (implies ps q) ax k) (record { derivation = d }) in
-    subst (λ p. Derives (bares ax) [] (bare p)) (instance_implies es fs ps q) th.derivation
+-- an instance of what is derived from no hypothesis
+pub instance_derives : {ax : List Tm} (n : Instance) (p : Tm) → keeps n.types n.terms ≡ true → Derives ax [] (bare p) → Derives ax [] (bare (instance_of n p))
+instance_derives {ax} n p k d =
+    let q : Tm = inst_tm n.types n.terms p in
+    let free : in_tms n.types (bare_entries n.terms) d.used ≡ false = in_tms_false n.types (bare_entries n.terms) d.used (λ t m. absurd (d.within t m)) in
+    let tree : Tree ax d.used (bare q) = subst (λ r. Tree ax d.used r) (inst_bare n.types n.terms p) (derivation.Instance n.types (bare_entries n.terms) (kept n.types n.terms k) free d.tree) in
+    let typed : HasType q prop = sym (type_at_bare [] q) ∙ type_of_typed (derived_typed tree) in
+    let same : Tree ax [] (eq prop (bare q) (bare (norm q))) = tree_more (λ r m. absurd m) (norm_tree q prop typed) in
+    record { used = d.used; tree = EqualElim same tree; within = d.within }
+
+pub from_instance : (ax : List Tm) (n : Instance) (ps : List Tm) (q : Tm) → keeps n.types n.terms ≡ true → From ax ps q → From ax (map (instance_of n) ps) (instance_of n q)
+from_instance ax n ps q k d = subst (λ p. Derives ax [] (bare p)) (instance_implies n ps q) (instance_derives n (implies ps q) k d)
 
 -- what is reduced and then instantiated follows
-pub instanced_follows : (ax : List Tm) (es : List TypeEntry) (fs : List TermEntry) (s t : Goals) → keeps es fs ≡ true → Reduces ax s t → Follows ax s (instanced es fs t)
-instanced_follows ax es fs s t k d = record {
-  types = es;
-  terms = fs;
+pub instanced_follows : (ax : List Tm) (n : Instance) (s t : Goals) → keeps n.types n.terms ≡ true → Reduces ax s t → Follows ax s (instanced n t)
+instanced_follows ax n s t k d = record {
+  inst = n;
   kept = k;
-  goal = ap (λ g. bare (instance es fs g)) d.goal;
-  subgoals = each_of s.subgoals (λ a m. from_instance ax es fs t.subgoals a k (of_each _ s.subgoals d.subgoals a m));
+  goal = ap (λ g. bare (instance_of n g)) d.goal;
+  subgoals = each_of s.subgoals (λ a m. from_instance ax n t.subgoals a k (of_each _ s.subgoals d.subgoals a m));
 }
 
 -- ---- the empty instance
@@ -145,14 +172,13 @@ empty_tm (Bound n) = refl
 empty_tm (Abs x T b) = λ i. Abs x (empty_ty T i) (empty_tm b i)
 empty_tm (App f a) = λ i. App (empty_tm f i) (empty_tm a i)
 
-pub empty_instance : (t : Tm) → IsNormal t → instance [] [] t ≡ t
+pub empty_instance : (t : Tm) → IsNormal t → instance_of (record { types = []; terms = [] }) t ≡ t
 empty_instance t h = ap norm (empty_tm t) ∙ norm_same t h
 
 -- a normal state follows from itself, and what reduces it follows from it
 pub reduced_follows : (ax : List Tm) (s t : Goals) → IsNormalState s → Reduces ax s t → Follows ax s t
 reduced_follows ax s t n d = record {
-  types = [];
-  terms = [];
+  inst = record { types = []; terms = [] };
   kept = refl;
   goal = ap bare (d.goal ∙ sym (empty_instance s.goal n.goal));
   subgoals = each_of s.subgoals (λ a m. subst (λ q. From ax t.subgoals q) (sym (empty_instance a (of_each _ s.subgoals n.subgoals a m))) (of_each _ s.subgoals d.subgoals a m));
@@ -162,27 +188,33 @@ pub reduces_itself : (s : Goals) → IsStanding s → Reduces [] s s
 reduces_itself s d = record { goal = refl; subgoals = each_of s.subgoals (λ a m. itself [] s.subgoals a (standing_propositions s d) m) }
 
 -- ---- one after the other
-chain : (ax : List Tm) (ps qs : List Tm) (a : Tm) → ArePropositions qs → From ax ps a → ((p : Tm) → Member p ps → From ax qs p) → From ax qs a
+pub chain : (ax : List Tm) (ps qs : List Tm) (a : Tm) → ArePropositions qs → From ax ps a → ((p : Tm) → Member p ps → From ax qs p) → From ax qs a
 chain ax ps qs a w d h = from_all ax qs a w (λ G f. under ax ps a G d (λ r m. each_under ps r G f h m))
   where
-    each_under : (ps : List Tm) (r : Tm) (G : List Tm) → Within (bares qs) G → ((p : Tm) → Member p ps → From ax qs p) → Member r (bares ps) → Derives (bares ax) G r
+    each_under : (ps : List Tm) (r : Tm) (G : List Tm) → Within (bares qs) G → ((p : Tm) → Member p ps → From ax qs p) → Member r (bares ps) → Derives ax G r
     each_under [] r G f h m = absurd m
-    each_under (p ∷ ps) r G f h (inl e) = subst (λ x. Derives (bares ax) G x) (sym e) (under ax qs p G (h p (inl refl)) (λ q n. derive_assume G q (f q n) (propositions_member (bares qs) q (propositions_bare qs w) n)))
+    each_under (p ∷ ps) r G f h (inl e) = subst (λ x. Derives ax G x) (sym e) (under ax qs p G (h p (inl refl)) (λ q n. derive_assume G q (f q n) (propositions_member (bares qs) q (propositions_bare qs w) n)))
     each_under (p ∷ ps) r G f h (inr m) = each_under ps r G f (λ q n. h q (inr n)) m
 
-map_member : (g : Tm → Tm) (P : Tm → Type 0) (ts : List Tm) → ((t : Tm) → Member t ts → P (g t)) → (u : Tm) → Member u (map g ts) → P u
+pub map_member : (g : Tm → Tm) (P : Tm → Type 0) (ts : List Tm) → ((t : Tm) → Member t ts → P (g t)) → (u : Tm) → Member u (map g ts) → P u
 map_member g P [] h u m = absurd m
 map_member g P (t ∷ ts) h u (inl e) = subst P (sym e) (h t (inl refl))
 map_member g P (t ∷ ts) h u (inr m) = map_member g P ts (λ x n. h x (inr n)) u m
 
+-- one reduction after the other
+pub reduces_more : (ax : List Tm) (s t u : Goals) → ArePropositions u.subgoals → Reduces ax s t → Reduces [] t u → Reduces ax s u
+reduces_more ax s t u w d e = record {
+  goal = e.goal ∙ d.goal;
+  subgoals = each_of s.subgoals (λ a m. chain ax t.subgoals u.subgoals a w (of_each _ s.subgoals d.subgoals a m) (λ p n. derive_more (λ r k. absurd k) (λ r k. k) (of_each _ t.subgoals e.subgoals p n)));
+}
+
 -- a state that follows from one to which another reduces
 pub reduces_follows : (ax : List Tm) (s t u : Goals) → ArePropositions u.subgoals → Reduces ax s t → Follows ax t u → Follows ax s u
 reduces_follows ax s t u w d f = record {
-  types = f.types;
-  terms = f.terms;
+  inst = f.inst;
   kept = f.kept;
-  goal = f.goal ∙ ap (λ g. bare (instance f.types f.terms g)) d.goal;
-  subgoals = each_of s.subgoals (λ a m. chain ax (map (instance f.types f.terms) t.subgoals) u.subgoals (instance f.types f.terms a) w
-      (from_instance ax f.types f.terms t.subgoals a f.kept (of_each _ s.subgoals d.subgoals a m))
-      (map_member (instance f.types f.terms) (λ p. From ax u.subgoals p) t.subgoals (of_each _ t.subgoals f.subgoals)));
+  goal = f.goal ∙ ap (λ g. bare (instance_of f.inst g)) d.goal;
+  subgoals = each_of s.subgoals (λ a m. chain ax (map (instance_of f.inst) t.subgoals) u.subgoals (instance_of f.inst a) w
+      (from_instance ax f.inst t.subgoals a f.kept (of_each _ s.subgoals d.subgoals a m))
+      (map_member (instance_of f.inst) (λ p. From ax u.subgoals p) t.subgoals (of_each _ t.subgoals f.subgoals)));
 }

@@ -1,11 +1,14 @@
 -- A match gives the term, and keeps types.
 use Rattle.std.proofs.Common.{◌≡◌, ℕ, List, [], ◌∷◌, ◌++◌, Bool, true, false, cond, ◌&&◌, nat_eq, Option, Some, None, unwrap_or, refl, sym, ap, ◌∙◌, subst}
+use Rattle.std.specs.Prelude.{is_none}
 use Rattle.std.proofs.lemmas.Bool.Decides.{Decides-eqb}
 use Rattle.std.specs.Cmp.Lexicographic.{bytes_decides}
-use Rattle.isa_terms.specs.Types.{Ty}
+use Rattle.isa_terms.specs.Types.{Ty, Tys, TyCon, TyFixed, TyUnknown, NoTys, MoreTys}
+use Rattle.isa_terms.specs.Typing.{function_parts}
+use Rattle.isa_terms.specs.declared.inst.TypeEntry.{TypeEntry}
 use Rattle.isa_terms.specs.Terms.{Tm, Const, Free, Unknown, Bound, Abs, App, bare}
 use Rattle.isa_terms.specs.Equal.{name_eq, ty_eq, tm_eq}
-use Rattle.isa_terms.specs.Instance.{find_term, inst_ty, inst_tm}
+use Rattle.isa_terms.specs.Instance.{find_term, inst_ty, inst_tys, inst_tm}
 use Rattle.isa_terms.specs.declared.inst.TermEntry.{TermEntry}
 use Rattle.isa_terms.proofs.Bare.{tm_decides}
 use Rattle.isa_terms.proofs.Equal.{ty_decides}
@@ -13,7 +16,7 @@ use Rattle.isa_kernel.specs.Forms.{app_parts}
 use Rattle.isa_kernel.specs.Inferences.{has_type, keeps}
 use Rattle.isa_conversion.proofs.Functions.{bind_some, cond_some}
 use Rattle.isa_kernel.proofs.Parts.{app_made}
-use Rattle.isa_goal.specs.Matching.{matched_unknown, matched}
+use Rattle.isa_goal.specs.Matching.{is_ground, are_ground, is_first_order, matched_unknown, matched}
 use Rattle.isa_goal.proofs.Following.{empty_ty}
 
 -- what the first entries give, the second give too
@@ -104,3 +107,45 @@ matched_sound (App f a) t fs gs e =
       gives = λ hs g. (λ j. App (left.gives hs (grows_more right.grows g) j) (right.gives hs g j)) ∙ ap bare (sym (app_made t p.0 p.1));
       keeps = λ k. right.keeps (left.keeps k);
     }
+
+-- ---- under an instance of types
+pub both_true : (a b : Bool) → (a && b) ≡ true → (a ≡ true) × (b ≡ true)
+both_true true b e = (refl, e)
+both_true false b e = absurd (cc)
+
+mutual
+  pub ground_same : (es : List TypeEntry) (T : Ty) → is_ground T ≡ true → inst_ty es T ≡ T
+  ground_same es (TyCon x Ts) h = ap (TyCon x) (grounds_same es Ts h)
+  ground_same es (TyFixed x) h = refl
+  ground_same es (TyUnknown x i) h = absurd (cc)
+
+  pub grounds_same : (es : List TypeEntry) (Ts : Tys) → are_ground Ts ≡ true → inst_tys es Ts ≡ Ts
+  grounds_same es NoTys h = refl
+  grounds_same es (MoreTys T Ts) h = let p = both_true (is_ground T) (are_ground Ts) h in λ i. MoreTys (ground_same es T p.0 i) (grounds_same es Ts p.1 i)
+
+keeps_end : (es : List TypeEntry) (fs : List TermEntry) (f : TermEntry) → keeps es fs ≡ true → has_type f.term (inst_ty es f.typ) ≡ true → keeps es (fs ++ f ∷ []) ≡ true
+keeps_end es [] f k h = ap (λ b. b && true) h
+keeps_end es (g ∷ fs) f k h = let p = both_true (has_type g.term (inst_ty es g.typ)) (keeps es fs) k in λ i. p.0 i && keeps_end es fs f p.1 h i
+
+atom_keeps : (es : List TypeEntry) (b : Bool) (fs gs : List TermEntry) → cond b (Some fs) None ≡ Some gs → keeps es fs ≡ true → keeps es gs ≡ true
+atom_keeps es b fs gs e k = let c = cond_some b (Some fs) e in let q : fs ≡ gs = cc (c.1) in subst (λ y. keeps es y ≡ true) q k
+
+unknown_keeps : (es : List TypeEntry) (x : List ℕ) (i : ℕ) (T : Ty) (t : Tm) (fs gs : List TermEntry) (o : Option Tm) → is_ground T ≡ true → matched_unknown x i T t fs o ≡ Some gs → keeps es fs ≡ true → keeps es gs ≡ true
+unknown_keeps es x i T t fs gs (Some u) g e k = atom_keeps es (tm_eq u t) fs gs e k
+unknown_keeps es x i T t fs gs None g e k =
+    let entry : TermEntry = record { name = x; number = i; typ = T; term = t } in
+    let c = cond_some (has_type t T) (Some (fs ++ entry ∷ [])) e in
+    let q : fs ++ entry ∷ [] ≡ gs = cc (c.1) in
+    subst (λ y. keeps es y ≡ true) q (keeps_end es fs entry k (ap (has_type t) (ground_same es T g) ∙ c.0))
+
+pub matched_keeps : (es : List TypeEntry) (p t : Tm) (fs gs : List TermEntry) → is_first_order p ≡ true → matched p t fs ≡ Some gs → keeps es fs ≡ true → keeps es gs ≡ true
+matched_keeps es (Const x S) t fs gs o e k = atom_keeps es (tm_eq (Const x S) t) fs gs e k
+matched_keeps es (Free x S) t fs gs o e k = atom_keeps es (tm_eq (Free x S) t) fs gs e k
+matched_keeps es (Unknown x i T) t fs gs o e k = unknown_keeps es x i T t fs gs (find_term x i T fs) (both_true (is_ground T) (is_none (function_parts T)) o).0 e k
+matched_keeps es (Bound i) t fs gs o e k = atom_keeps es (tm_eq (Bound i) t) fs gs e k
+matched_keeps es (Abs x S b) t fs gs o e k = absurd (cc)
+matched_keeps es (App f a) t fs gs o e k =
+    let h = both_true (is_first_order f) (is_first_order a) o in
+    let p = bind_some (app_parts t) _ e in
+    let m = bind_some (matched f p.0.0 fs) _ p.2 in
+    matched_keeps es a p.0.1 m.0 gs h.1 m.2 (matched_keeps es f p.0.0 fs m.0 h.0 m.1 k)

@@ -4,7 +4,7 @@ use Rattle.std.proofs.lemmas.List.{take-append-drop}
 use Rattle.std.specs.Prelude.{option_and_then, option_map, Result, Ok, Err}
 use Rattle.isa_terms.specs.Terms.{Tm, bare}
 use Rattle.isa_terms.specs.Equal.{tm_eq}
-use Rattle.isa_terms.specs.Sets.{joined}
+use Rattle.isa_kernel.specs.Axioms.{propositions, joined_bases}
 use Rattle.isa_kernel.specs.Logic.{prop, imp}
 use Rattle.isa_kernel.specs.Forms.{imp_parts}
 use Rattle.isa_kernel.specs.Derivation.{Derives}
@@ -52,22 +52,21 @@ standing_propositions s d = (derived_propositions s.subgoals s.goal d.derivation
 pub rule_propositions : (n : ℕ) (th : Theorem) (at : List Tm × Tm) → rule_form n th ≡ Some at → IsDerived th → ArePropositions at.0
 rule_propositions n th at e d =
     let q = rule_made n th at e in
-    (derived_propositions at.0 at.1 (subst (λ (x : Theorem). Derives (map bare th.base) (map bare th.hyps) (bare x.prop)) q d.derivation)).0
+    (derived_propositions at.0 at.1 (subst (λ (x : Theorem). Derives (propositions th.base) (map bare th.hyps) (bare x.prop)) q d.derivation)).0
 
 -- the state with a theorem's premises in the place of a subgoal
 abbrev pub placed : Goals → Theorem → (List Tm × Tm × List Tm) → List Tm → Goals
-placed s th at bs = record { subgoals = at.0 ++ (bs ++ at.2); goal = s.goal; base = joined s.base th.base }
+placed s th at bs = record { subgoals = at.0 ++ (bs ++ at.2); goal = s.goal; base = joined_bases s.base th.base }
 
 pub refined_cut : (i n : ℕ) (s : Goals) (th : Theorem) (at : List Tm × Tm × List Tm) (parts : List Tm × Tm) → around i s.subgoals ≡ Some at → rule_form n th ≡ Some parts → tm_eq at.1 parts.1 ≡ true → IsStanding s → IsDerived th →
-    cut at.0 parts.0 at.2 (theorem_of s) th ≡ Some (theorem_of (placed s th at parts.0))
+    cut at.0 parts.0 (theorem_of s) th ≡ Some (theorem_of (placed s th at parts.0))
 refined_cut i n s th at parts a r e d f =
     let here = around_made i s.subgoals at a in
     let all : ArePropositions (at.0 ++ (at.1 ∷ at.2)) = subst (λ ts. ArePropositions ts) here (standing_propositions s d) in
     let us : ArePropositions at.0 = propositions_left at.0 (at.1 ∷ at.2) all in
-    let vs : ArePropositions (at.1 ∷ at.2) = propositions_right at.0 (at.1 ∷ at.2) all in
     let bs : ArePropositions parts.0 = rule_propositions n th parts r f in
-    (λ j. cut at.0 parts.0 at.2 (record { hyps = []; prop = implies (here j) s.goal; base = s.base }) (rule_made n th parts r j))
-    ∙ cut_is at.0 parts.0 at.2 s.base th.base at.1 parts.1 s.goal us bs vs.1 e
+    (λ j. cut at.0 parts.0 (record { hyps = []; prop = implies (here j) s.goal; base = s.base }) (rule_made n th parts r j))
+    ∙ cut_is at.0 parts.0 at.2 s.base th.base at.1 parts.1 s.goal us bs e
 
 abbrev pub Form : Type 0
 Form = List Tm × Tm
@@ -100,9 +99,9 @@ premises_more n t p q d e l i h =
 
 -- ---- the state that the inferences give
 pub refined_is : (i n : ℕ) (s : Goals) (th thm : Theorem) (us vs bs : List Tm) (w r : Tm) → around i s.subgoals ≡ Some (us, w, vs) → rule_form n th ≡ Some (bs, r) → tm_eq w r ≡ true → IsStanding s → IsDerived th → Proves thm s →
-    (cut us bs vs thm th ≡ Some (theorem_of (placed s th (us, w, vs) bs))) × (refined i th n s ≡ Some (placed s th (us, w, vs) bs))
+    (cut us bs thm th ≡ Some (theorem_of (placed s th (us, w, vs) bs))) × (refined i th n s ≡ Some (placed s th (us, w, vs) bs))
 refined_is i n s th thm us vs bs w r a f e d g p = (
-  ap (λ x. cut us bs vs x th) p.same ∙ refined_cut i n s th (us, w, vs) (bs, r) a f e d g,
+  ap (λ x. cut us bs x th) p.same ∙ refined_cut i n s th (us, w, vs) (bs, r) a f e d g,
   ap (λ o. option_and_then {T = List Tm × Tm × List Tm} {U = Goals} (λ at. option_and_then {T = Form} {U = Goals} (λ parts. cond (tm_eq at.1 parts.1) (Some (placed s th at parts.0)) None) (rule_form n th)) o) a
       ∙ ap (λ o. option_and_then {T = Form} {U = Goals} (λ parts. cond (tm_eq w parts.1) (Some (placed s th (us, w, vs) parts.0)) None) o) f
       ∙ ap (λ b. cond b (Some (placed s th (us, w, vs) bs)) None) e,

@@ -1,47 +1,45 @@
 -- How a state follows from another.
-use Rattle.std.specs.Prelude.{◌≡◌, ℕ, List, [], ◌∷◌, map, Bool, true, Option, Some, Result, Ok, Err}
+use Rattle.std.specs.Prelude.{◌≡◌, ℕ, List, [], ◌∷◌, ◌++◌, map, Bool, true, Option, Some, Result, Ok, Err}
 use Rattle.isa_terms.specs.Terms.{Tm, bare}
-use Rattle.isa_terms.specs.Instance.{inst_tm}
-use Rattle.isa_terms.specs.declared.inst.TypeEntry.{TypeEntry}
-use Rattle.isa_terms.specs.declared.inst.TermEntry.{TermEntry}
-use Rattle.isa_terms.specs.Norm.{norm}
+use Rattle.isa_terms.specs.Instance.{Instance, instance_of}
 use Rattle.isa_terms.specs.Normal.{IsNormal}
-use Rattle.isa_kernel.specs.Derivation.{Derives}
+use Rattle.isa_kernel.specs.Axioms.{propositions}
+use Rattle.isa_kernel.specs.Derivation.{Within, Derives}
 use Rattle.isa_kernel.specs.Theorem.{Theorem, IsDerived}
 use Rattle.isa_kernel.specs.Inferences.{keeps}
 use Rattle.isa_kernel.specs.declared.inference.InferenceError.{InferenceError}
 use Rattle.isa_goal.specs.Goals.{Goals, implies, IsStanding, refined}
-
--- the instance, normalised
-abbrev pub instance : List TypeEntry → List TermEntry → Tm → Tm
-instance es fs t = norm (inst_tm es fs t)
 
 -- it holds of each of the terms
 abbrev pub Each : (Tm → Type 0) → List Tm → Type 0
 Each P [] = Unit {0}
 Each P (t ∷ ts) = P t × Each P ts
 
--- the goal of t is an instance of that of s, and each subgoal of s, so instantiated, follows from those of t
+-- by the axioms `ax`: the goal of t is an instance of that of s, and each subgoal of s, so instantiated, follows from those of t
 pub record Follows (ax : List Tm) (s t : Goals) : Type 0 where
-  pub types : List TypeEntry
-  pub terms : List TermEntry
-  pub kept : keeps types terms ≡ true
-  pub goal : bare t.goal ≡ bare (instance types terms s.goal)
-  pub subgoals : Each (λ a. Derives (map bare ax) [] (bare (implies t.subgoals (instance types terms a)))) s.subgoals
+  pub inst : Instance
+  pub kept : keeps inst.types inst.terms ≡ true
+  pub goal : bare t.goal ≡ bare (instance_of inst s.goal)
+  pub subgoals : Each (λ a. Derives ax [] (bare (implies t.subgoals (instance_of inst a)))) s.subgoals
+
+-- t follows from s by the axioms, and rests on these and on those of s
+pub record Advances (ax : List Tm) (s t : Goals) : Type 0 where
+  pub follows : Follows ax s t
+  pub rests : Within (propositions t.base) (propositions s.base ++ ax)
 
 -- where there is an answer, it follows
 abbrev pub Leads : List Tm → Goals → Result Goals InferenceError → Type 0
-Leads ax s (Ok t) = Follows ax s t
+Leads ax s (Ok t) = Advances ax s t
 Leads ax s (Err e) = Unit {0}
 
 -- the goal is the same, and each subgoal of s follows from those of t
 pub record Reduces (ax : List Tm) (s t : Goals) : Type 0 where
   pub goal : t.goal ≡ s.goal
-  pub subgoals : Each (λ a. Derives (map bare ax) [] (bare (implies t.subgoals a))) s.subgoals
+  pub subgoals : Each (λ a. Derives ax [] (bare (implies t.subgoals a))) s.subgoals
 
 -- the state under the instance
-abbrev pub instanced : List TypeEntry → List TermEntry → Goals → Goals
-instanced es fs s = record { subgoals = map (instance es fs) s.subgoals; goal = instance es fs s.goal; base = s.base }
+abbrev pub instanced : Instance → Goals → Goals
+instanced inst s = record { subgoals = map (instance_of inst) s.subgoals; goal = instance_of inst s.goal; base = s.base }
 
 -- a state whose terms are normal
 pub record IsNormalState (s : Goals) : Type 0 where
@@ -54,11 +52,11 @@ FollowsItself = (s : Goals) → IsStanding s → IsNormalState s → Follows [] 
 
 -- the refined state has the old goal, and the old subgoals follow from its own by the theorem's axioms
 abbrev pub RefinedReduces : Type 0
-RefinedReduces = (i n : ℕ) (th : Theorem) (s t : Goals) → refined i th n s ≡ Some t → IsStanding s → IsDerived th → Reduces th.base s t
+RefinedReduces = (i n : ℕ) (th : Theorem) (s t : Goals) → refined i th n s ≡ Some t → IsStanding s → IsDerived th → Reduces (propositions th.base) s t
 
 -- what is reduced and then instantiated follows
 abbrev pub InstancedFollows : Type 0
-InstancedFollows = (ax : List Tm) (es : List TypeEntry) (fs : List TermEntry) (s t : Goals) → keeps es fs ≡ true → Reduces ax s t → Follows ax s (instanced es fs t)
+InstancedFollows = (ax : List Tm) (inst : Instance) (s t : Goals) → keeps inst.types inst.terms ≡ true → Reduces ax s t → Follows ax s (instanced inst t)
 
 -- what a normal state reduces to follows from it
 abbrev pub ReducedFollows : Type 0

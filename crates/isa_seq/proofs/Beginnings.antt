@@ -1,12 +1,8 @@
 -- Proofs of the laws.
-use Rattle.std.proofs.Common.{◌≡◌, ℕ, zero, suc, ◌+◌, ◌-◌, ◌≤◌, Some, List, [], ◌∷◌, ◌++◌, length, refl, sym, ◌∙◌, ap, subst, arith}
-use Rattle.std.proofs.lemmas.List.{append-nil, nil_from_length}
+use Rattle.std.proofs.Common.{◌≡◌, ℕ, zero, suc, ◌+◌, ◌-◌, ◌≤◌, List, [], ◌∷◌, ◌++◌, length, refl, sym, ◌∙◌, ap, subst, arith}
 use Rattle.isa_seq.specs.declared.event.Event.{Event}
 use Rattle.isa_seq.specs.declared.event.Event.TheVariants.{Tick, Outside, Res}
-use Rattle.isa_seq.specs.declared.tac.Tac.{Tac}
-use Rattle.isa_seq.specs.declared.tac.TacNode.{TacNode}
-use Rattle.isa_seq.specs.declared.tac.TacNode.TheVariants.{Then}
-use Rattle.isa_seq.specs.Traces.{Trace, IsTrace, cut, nothing, event, then_each}
+use Rattle.isa_seq.specs.Traces.{Trace, IsTrace, cut, event, then_each}
 use Rattle.isa_seq.specs.Meaning.{Meaning, IsMeaning, is_solved}
 use Rattle.isa_seq.specs.Tactics.{trace}
 use Rattle.isa_seq.specs.Laws.{IsBeginning, ShowsBeginnings, ThenIsAssociative, GiveTraces, AreTraces, Pulls, ResumedGivesTheRest}

@@ -1,11 +1,10 @@
 -- Traces that have a result if they end: a repetition is one, so no alternative behind it matters.
-use Rattle.std.proofs.Common.{◌≡◌, ℕ, zero, suc, ◌+◌, ◌≤◌, ◌<◌, Bool, true, false, List, [], ◌∷◌, ◌++◌, refl, sym, ◌∙◌, ap, subst, arith, inl, inr}
+use Rattle.std.proofs.Common.{◌≡◌, ℕ, zero, suc, ◌≤◌, ◌<◌, Bool, true, false, List, [], ◌∷◌, ◌++◌, refl, sym, ◌∙◌, ap, subst, arith, inl, inr}
 use Rattle.std.proofs.lemmas.Bool.{cases_lt}
 use Rattle.isa_seq.specs.declared.event.Event.{Event}
 use Rattle.isa_seq.specs.declared.event.Event.TheVariants.{Tick, Outside, Res}
 use Rattle.isa_seq.specs.Traces.{Trace, IsTrace, cut, has_result, nothing, event, append, then_each, or_else, repeat}
 use Rattle.isa_seq.specs.Asking.{count_of_ticks}
-use Rattle.isa_seq.proofs.Cuts.{cut-cut}
 use Rattle.isa_seq.proofs.Laws.{same_trace, cut-self, or_else-found, or_else-not_found}
 
 -- behind so many ticks nothing is seen

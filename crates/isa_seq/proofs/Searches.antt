@@ -1,5 +1,5 @@
 -- Laws of `collect` and of the search that takes the best state first.
-use Rattle.std.proofs.Common.{◌≡◌, ℕ, zero, suc, ◌+◌, ◌≤◌, ◌<◌, ◌||◌, nat_lt, Bool, true, false, if◌then◌else◌, List, [], ◌∷◌, ◌++◌, map, inl, inr, refl, sym, ◌∙◌, ap, subst, arith}
+use Rattle.std.proofs.Common.{◌≡◌, ℕ, zero, suc, ◌≤◌, ◌<◌, nat_lt, Bool, true, false, if◌then◌else◌, List, [], ◌∷◌, ◌++◌, map, inl, inr, refl, sym, ◌∙◌, ap, subst, arith}
 use Rattle.std.proofs.lemmas.Bool.{cases_lt}
 use Rattle.isa_seq.specs.declared.event.Event.{Event}
 use Rattle.isa_seq.specs.declared.event.Event.TheVariants.{Tick, Outside, Res}
@@ -8,8 +8,8 @@ use Rattle.isa_seq.specs.Meaning.{Meaning, is_solved}
 use Rattle.isa_seq.specs.Asking.{count_of_ticks}
 use Rattle.isa_seq.specs.Searches.{least, has_same, added, results_of, without_results, collect, best_first}
 use Rattle.isa_seq.specs.Queues.{enqueued, best_of}
-use Rattle.isa_seq.proofs.Cuts.{cut-cut, cut-append-cut, cut-cut-append}
-use Rattle.isa_seq.proofs.Laws.{same_trace, Steps, cut-self, nothing-steps, choice-steps}
+use Rattle.isa_seq.proofs.Cuts.{cut-cut, cut-append-cut}
+use Rattle.isa_seq.proofs.Laws.{same_trace, Steps, cut-self, choice-steps}
 use Rattle.isa_seq.proofs.Productive.{cut-full}
 
 cut-few : {S : Type 0} (n : ℕ) (xs : List (Event S)) → count_of_ticks xs < n → cut n xs ≡ xs

@@ -8,7 +8,6 @@ use Rattle.isa_seq.specs.Traces.{Trace, IsTrace, nothing, event, append, then_ea
 use Rattle.isa_seq.specs.Meaning.{Meaning, is_solved}
 use Rattle.isa_seq.specs.Searches.{collect, best_first}
 use Rattle.isa_seq.specs.Tactics.{trace}
-use Rattle.isa_seq.specs.Asking.{prepend}
 
 -- ys goes on where xs ends
 abbrev pub IsBeginning : {X : Type 0} → List X → List X → Type 0

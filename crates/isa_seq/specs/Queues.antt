@@ -1,5 +1,5 @@
 -- A list of states with their measures, as a map by measure and age keeps it.
-use Rattle.std.specs.Prelude.{◌≡◌, ℕ, zero, suc, nat_lt, Bool, true, false, if◌then◌else◌, List, [], ◌∷◌, ◌++◌, map}
+use Rattle.std.specs.Prelude.{◌≡◌, ℕ, zero, suc, nat_lt, if◌then◌else◌, List, [], ◌∷◌, ◌++◌, map}
 use Rattle.isa_seq.specs.declared.event.Event.TheVariants.{Tick, Res}
 use Rattle.isa_seq.specs.Traces.{Trace, event}
 use Rattle.isa_seq.specs.Meaning.{Meaning, is_solved}

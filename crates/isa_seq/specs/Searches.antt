@@ -1,5 +1,5 @@
--- The search that takes the best state first.
-use Rattle.std.specs.Prelude.{ℕ, zero, suc, ◌||◌, nat_lt, Bool, true, false, if◌then◌else◌, List, [], ◌∷◌, ◌++◌}
+-- The search that takes the best state first, as Isabelle's BEST_FIRST; the ages and the ticks are this project's own.
+use Rattle.std.specs.Prelude.{ℕ, zero, suc, ◌||◌, nat_lt, Bool, false, if◌then◌else◌, List, [], ◌∷◌, ◌++◌}
 use Rattle.isa_seq.specs.declared.event.Event.{Event}
 use Rattle.isa_seq.specs.declared.event.Event.TheVariants.{Tick, Outside, Res}
 use Rattle.isa_seq.specs.Traces.{Trace, cut, event}

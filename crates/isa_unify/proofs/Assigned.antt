@@ -48,7 +48,7 @@ looked_up (e ∷ es) k x n T t h = go (key_eq (key x n T) (key e.name e.number e
     go true d ih = inl (or_left (stands k e.term) (some_term_has k es) d)
     go false d ih = later (ih d)
 
-stands-inst_tm : (es : List TermEntry) (k : Key) (t : Tm) → stands k (inst_tm [] es t) ≡ true → (some_term_has k es ≡ true) ⊎ ((stands k t ≡ true) × (assigns es k ≡ false))
+pub stands-inst_tm : (es : List TermEntry) (k : Key) (t : Tm) → stands k (inst_tm [] es t) ≡ true → (some_term_has k es ≡ true) ⊎ ((stands k t ≡ true) × (assigns es k ≡ false))
 stands-inst_tm es k (Const x T) h = absurd (cc)
 stands-inst_tm es k (Free x T) h = absurd (cc)
 stands-inst_tm es k (Bound n) h = absurd (cc)
@@ -110,7 +110,7 @@ retyped_key s k = record k { typ = inst_ty s k.typ }
 abbrev pub CameFrom : List TypeEntry → Key → (Key → Bool) → Type 0
 CameFrom s k stood = (l : Key) × (stood l ≡ true) × (k ≡ retyped_key s l)
 
-stands-retyped : (s : List TypeEntry) (k : Key) (t : Tm) → stands k (retyped s t) ≡ true → CameFrom s k (λ l. stands l t)
+pub stands-retyped : (s : List TypeEntry) (k : Key) (t : Tm) → stands k (retyped s t) ≡ true → CameFrom s k (λ l. stands l t)
 stands-retyped s k (Const x T) h = absurd (cc)
 stands-retyped s k (Free x T) h = absurd (cc)
 stands-retyped s k (Bound n) h = absurd (cc)

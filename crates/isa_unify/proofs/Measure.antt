@@ -161,7 +161,7 @@ chosen_typed : (c : Bool) (S T : Ty) (o : Option (List Equation)) (es : List Equ
 chosen_typed true S T o es h = typed_some S T o es h
 chosen_typed false S T o es h = absurd h
 
-meet_paired : (bs : List Variable) (g : Tm) (ts : List Tm) (h : Tm) (us : List Tm) (es : List Equation) → AreParts (meet bs g ts h us) es → paired bs ts us ≡ Some es
+pub meet_paired : (bs : List Variable) (g : Tm) (ts : List Tm) (h : Tm) (us : List Tm) (es : List Equation) → AreParts (meet bs g ts h us) es → paired bs ts us ≡ Some es
 meet_paired bs (Const x1 T1) ts (Const x2 T2) us es p = chosen_typed (name_eq x1 x2) T1 T2 (paired bs ts us) es p
 meet_paired bs (Const x1 T1) ts (Free x2 T2) us es p = absurd p
 meet_paired bs (Const x1 T1) ts (Unknown x2 n2 T2) us es p = absurd p

@@ -12,3 +12,4 @@ pub mod Calls
 pub mod Worked
 pub mod UnificationRows
 pub mod Laws
+pub mod UnifyLaw

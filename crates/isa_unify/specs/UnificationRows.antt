@@ -1,6 +1,8 @@
 -- Worked examples: the definition computes its answers. New unknowns are numbered from 1.
-use Rattle.std.specs.Prelude.{◌≡◌, [], ◌∷◌, codes, refl}
-use Rattle.isa_terms.specs.Terms.{Const, Bound, Abs, App}
+use Rattle.std.specs.Prelude.{◌≡◌, ℕ, List, [], ◌∷◌, ◌++◌, map, codes, refl}
+use Rattle.isa_terms.specs.Types.{Ty}
+use Rattle.isa_terms.specs.Terms.{Tm, Const, Bound, Abs, App}
+use Rattle.isa_unify.specs.declared.progress.Answer.{Answer}
 use Rattle.isa_unify.specs.declared.progress.Answer.TheVariants.{Yes, No, Outside}
 use Rattle.isa_unify.specs.Unification.{unify}
 use Rattle.isa_unify.specs.Worked.{◌⇒◌, i, o, ta, c, d, e, g, h, Q, R, a, b, un, x, y, F, F2, G, G2, P, P2, All, K, put, put_type, unify_two}
@@ -269,3 +271,57 @@ eta_short = refl
 pub other_numbers : unify_two (App (Const (codes "k") (i ⇒ i ⇒ i)) c) (Const (codes "k") (i ⇒ i)) ≡ No
 unfolding unify
 other_numbers = refl
+
+-- a table of pairs, by the letters of their answers
+
+pub letter : Answer → List ℕ
+letter (Yes ts fs n) = codes "Y"
+letter No = codes "N"
+letter Outside = codes "O"
+
+pub letters : Tm → List Tm → List ℕ
+unfolding unify letter
+letters t [] = []
+letters t (u ∷ us) = letter (unify_two t u) ++ letters t us
+
+pub rights : List Tm
+rights =
+    h ∷
+    (Abs (codes "x") i (Abs (codes "y") i (App (App h (Bound 0)) (Bound 1)))) ∷
+    (Abs (codes "x") i (Abs (codes "y") i c)) ∷
+    (Abs (codes "x") i (Abs (codes "y") i (App g (App (App G2 (Bound 1)) (Bound 0))))) ∷
+    (Abs (codes "x") i (Abs (codes "y") i (App (App h (App (App G2 (Bound 0)) (Bound 1))) d))) ∷
+    (Abs (codes "x") i (Abs (codes "y") i (App G (Bound 0)))) ∷
+    (Abs (codes "x") i (Abs (codes "y") i (App (App h (App g (Bound 1))) c))) ∷ []
+
+pub forgets_second : letters (Abs (codes "x") i (Abs (codes "y") i (App F (Bound 1)))) rights ≡ codes "NNYYYYY"
+unfolding letters rights
+forgets_second = refl
+
+pub both_variables : letters F2 rights ≡ codes "YYYYYYY"
+unfolding letters rights
+both_variables = refl
+
+pub both_turned : letters (Abs (codes "x") i (Abs (codes "y") i (App (App F2 (Bound 0)) (Bound 1)))) rights ≡ codes "YYYYYYY"
+unfolding letters rights
+both_turned = refl
+
+pub no_variable : letters (Abs (codes "x") i (Abs (codes "y") i (un (codes "z") 0 i))) rights ≡ codes "NNYYYYN"
+unfolding letters rights
+no_variable = refl
+
+pub same_unknown_twice : letters (Abs (codes "x") i (Abs (codes "y") i (App (App h (App F (Bound 1))) (App F (Bound 0))))) rights ≡ codes "YNNNYYN"
+unfolding letters rights
+same_unknown_twice = refl
+
+pub one_variable_twice : letters (Abs (codes "x") i (Abs (codes "y") i (App (App F2 (Bound 1)) (Bound 1)))) rights ≡ codes "OOOOOOO"
+unfolding letters rights
+one_variable_twice = refl
+
+pub constant_beside : letters (Abs (codes "x") i (Abs (codes "y") i (App (App h (App (App F2 (Bound 1)) c)) c))) rights ≡ codes "NNNNNOO"
+unfolding letters rights
+constant_beside = refl
+
+pub variable_and_constant : letters (Abs (codes "x") i (Abs (codes "y") i (App (App h (App F (Bound 1))) c))) rights ≡ codes "NNNNNYY"
+unfolding letters rights
+variable_and_constant = refl

@@ -1,41 +1,13 @@
 //! Terms for unknowns, as abstractions over bound variables.
 
 ghost use Rattle.std.specs.Prelude.{◌≡◌, map, IfOk};
-ghost use Rattle.isa_terms.specs.Norm.{loose, eta};
 ghost use Rattle.isa_unify.specs.Unification.{no_variable, variable, bind_all, place_behind, moved, abstracted, arrows, range_behind, on_bounds, over};
 
 use crate::equation::{Binders, Variable};
 use isa_terms::{
-    Name, Term, TermNode, Typ, TypNode, Typs, function_type, replaced, split_function,
+    Name, Term, TermNode, Typ, TypNode, Typs, abstraction, function_type, split_function,
 };
 use std::alloc::{AllocError, Global};
-
-/// Whether the variable `depth` of as many binders is in the term.
-fn is_loose(depth: u32, t: &Term) -> Result<bool, AllocError>
-    ensures { IfOk result (λ r. r ≡ loose depth t.now) }
-{
-    match t.view() {
-        TermNode::Const(_, _) | TermNode::Free(_, _) | TermNode::Unknown(_, _, _) => Ok(false),
-        TermNode::Bound(number) => Ok(*number == depth),
-        TermNode::Abs(_, _, body) => is_loose(depth.checked_add(1).ok_or(AllocError)?, body),
-        TermNode::App(fun, arg) => Ok(is_loose(depth, fun)? || is_loose(depth, arg)?),
-    }
-}
-
-/// The abstraction over the body, eta short.
-fn abstraction(alloc: Global, variable: Variable, body: Term) -> Result<Term, AllocError>
-    ensures { IfOk result (λ t. t ≡ eta variable.name variable.typ body) }
-{
-    if let TermNode::App(fun, arg) = body.view() {
-        if let TermNode::Bound(0) = arg.view() {
-            if !is_loose(0, fun)? {
-                return replaced(alloc, fun, arg);
-            }
-        }
-    }
-    let Variable { name, typ } = variable;
-    Term::new(alloc, TermNode::Abs(name, typ, body))
-}
 
 /// The variable with that number.
 fn variable(alloc: Global, binders: &Binders, number: u32) -> Result<Variable, AllocError>
@@ -63,7 +35,8 @@ fn bound_over(
         None => Ok(t),
         Some((first, rest)) => {
             let body = bound_over(alloc, binders, rest, t)?;
-            abstraction(alloc, variable(alloc, binders, *first)?, body)
+            let Variable { name, typ } = variable(alloc, binders, *first)?;
+            abstraction(alloc, &name, &typ, body)
         }
     }
 }

@@ -17,14 +17,11 @@ mod places;
 mod progress;
 mod spines;
 mod steps;
-#[cfg(test)]
-mod tests;
 mod types;
 mod unification;
 
-pub use matching::{match_pattern, match_patterns};
 pub use fresh::Fresh;
-pub use laws::unification_ends;
-pub use matching::match_pattern;
+pub use laws::{no_is_right, unification_ends};
+pub use matching::{match_pattern, match_patterns};
 pub use types::{TypePair, unify_type_pairs, unify_types};
 pub use unification::{TermPair, Unified, unify, unify_pairs};

@@ -5,6 +5,7 @@ ghost use Rattle.isa_unify.specs.Spines.{head_of, args_of, distinct_bounds};
 ghost use Rattle.isa_unify.specs.Steps.{taken, prune};
 ghost use Rattle.isa_unify.specs.Unification.{agreeing, assigned, renewed, after_new, with_first, both_become, solve, solve_same, solve_two, solve_unknowns, flexible_step, after_types, front_step, parts_at, unify_step, unified};
 
+use crate::abstractions::{abstracted, over, range_behind};
 use crate::clashing::unified_types;
 use crate::equation::{Binders, Equation};
 use crate::filling::{filled_state, retyped_state};
@@ -12,7 +13,6 @@ use crate::numbers::Numbers;
 use crate::parts::parts_at;
 use crate::places::{Pattern, first_place, shared_of};
 use crate::progress::{Answer, Parts, Progress, State, Verdict};
-use crate::abstractions::{abstracted, over, range_behind};
 use crate::spines::{args_of, distinct_bounds, head_of};
 use isa_terms::{Term, TermEntries, TermEntry, TermNode};
 use std::alloc::{AllocError, Global};

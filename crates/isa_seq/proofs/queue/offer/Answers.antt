@@ -1,4 +1,4 @@
-use Rattle.std.proofs.Common.{◌≡◌, sym, ◌∙◌}
+use Rattle.std.proofs.Common.{sym, ◌∙◌}
 use Rattle.isa_seq.proofs.Queues.{offered-same, offered-new, OnOk-map}
 use Rattle.isa_seq.proofs.queue.offer.Goals as goal
 

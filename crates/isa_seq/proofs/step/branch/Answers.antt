@@ -1,8 +1,7 @@
-use Rattle.std.proofs.Common.{◌≡◌, ◌+◌, ◌==◌, ◌<◌, ◌≤◌, [], ◌∷◌, ◌++◌, List, length, take, drop, refl, sym, ◌∙◌, ap, arith}
+use Rattle.std.proofs.Common.{◌≡◌, [], ◌∷◌, ◌++◌, length, take, refl, sym, ◌∙◌, ap, arith}
 use Rattle.std.proofs.lemmas.List.{append-nil, nil_from_length}
 use Rattle.std.proofs.lemmas.Bool.Decides.{nat_tests}
 use Rattle.isa_seq.specs.declared.frame.Frame.TheVariants.{Call, Each, Suspended}
-use Rattle.isa_seq.specs.Steps.{Branches}
 use Rattle.isa_seq.proofs.Flight.{take-below}
 use Rattle.isa_seq.proofs.step.branch.Goals as goal
 

@@ -1,4 +1,4 @@
-use Rattle.std.proofs.Common.{◌≡◌, arith}
+use Rattle.std.proofs.Common.{arith}
 use Rattle.isa_seq.proofs.Starts.{starts-deeper, starts-solved, is_zero, is_not_zero}
 use Rattle.isa_seq.proofs.step.deepen.Goals as goal
 

@@ -1,4 +1,4 @@
-use Rattle.std.proofs.Common.{◌≡◌, ◌++◌, ◌∷◌, [], sym, ◌∙◌, ap, arith}
+use Rattle.std.proofs.Common.{◌++◌, ◌∷◌, [], ◌∙◌, ap, arith}
 use Rattle.isa_seq.specs.declared.frame.Frame.TheVariants.{Best}
 use Rattle.isa_seq.proofs.Starts.{is_zero, is_not_zero}
 use Rattle.isa_seq.proofs.Moves.{best-ended, best-solved, best-expanded}

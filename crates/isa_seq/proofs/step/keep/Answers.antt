@@ -1,6 +1,5 @@
-use Rattle.std.proofs.Common.{◌≡◌, ◌<◌, [], ◌∷◌, length, slice_index_or, slice_set, sym, ◌∙◌, ap}
+use Rattle.std.proofs.Common.{slice_set, sym, ◌∙◌, ap}
 use Rattle.std.proofs.lemmas.List.{get_or_default, set-set}
-use Rattle.isa_seq.specs.declared.frame.Frame.TheVariants.{Best}
 use Rattle.isa_seq.proofs.step.keep.Goals as goal
 
 pub returns-in_ok-offer-in-Best : goal.returns-in_ok-offer-in-Best

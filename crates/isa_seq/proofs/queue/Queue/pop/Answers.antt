@@ -1,4 +1,3 @@
-use Rattle.std.proofs.Common.{◌≡◌, ◌<◌}
 use Rattle.isa_seq.proofs.Queues.{takes, older-popped}
 use Rattle.isa_seq.proofs.queue.Queue.pop.Goals as goal
 

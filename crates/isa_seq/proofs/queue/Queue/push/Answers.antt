@@ -1,4 +1,4 @@
-use Rattle.std.proofs.Common.{◌≡◌, ◌<◌, ◌++◌, ◌∷◌, [], arith}
+use Rattle.std.proofs.Common.{arith}
 use Rattle.isa_seq.proofs.Queues.{waiting-insert, still-older}
 use Rattle.isa_seq.proofs.queue.Queue.push.Goals as goal
 

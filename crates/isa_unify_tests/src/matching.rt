@@ -1,10 +1,10 @@
 //! Tests of unification of types and of matching.
 
-use crate::{match_pattern, unify_types};
 use isa_terms::{
     Inst, Name, Term, TermNode, Typ, TypNode, Typs, function_type, inst_typ, instantiate,
     same_term, same_typ,
 };
+use isa_unify::{match_pattern, unify_types};
 use std::alloc::Global;
 use std::test::Fail;
 

@@ -1,0 +1,64 @@
+-- What unification finds: an instance that makes the sides of the equations equal, and that is most general.
+use Rattle.std.specs.Prelude.{◌≡◌, ℕ, ◌<◌, List, [], ◌∷◌, Ok}
+use Rattle.isa_terms.specs.Types.{Ty}
+use Rattle.isa_terms.specs.Terms.{Tm, Const, Free, Unknown, Bound, Abs, App, bare}
+use Rattle.isa_terms.specs.Typing.{type_at}
+use Rattle.isa_terms.specs.Normal.{IsNormal}
+use Rattle.isa_terms.specs.Instance.{Instance, instance_of}
+use Rattle.isa_conversion.specs.Instances.{KeepsTypes, IsFollowed}
+use Rattle.isa_unify.specs.declared.equation.Equation.{Equation}
+use Rattle.isa_unify.specs.declared.progress.Answer.{Answer}
+use Rattle.isa_unify.specs.declared.progress.Answer.TheVariants.{Yes, No, Outside}
+use Rattle.isa_unify.specs.Unification.{types_in, unify}
+
+-- each unknown of the term stands at the one type of its name and number, which is below n
+abbrev pub HasUnknowns : (List ℕ → ℕ → Ty) → ℕ → Tm → Type 0
+HasUnknowns typ n (Unknown x i T) = (T ≡ typ x i) × (i < n)
+HasUnknowns typ n (Abs x T b) = HasUnknowns typ n b
+HasUnknowns typ n (App f a) = HasUnknowns typ n f × HasUnknowns typ n a
+HasUnknowns typ n _ = Unit {0}
+
+-- the sides are well typed and normal
+pub record IsGiven (typ : List ℕ → ℕ → Ty) (n : ℕ) (e : Equation) : Type 0 where
+  pub left_type : Ty
+  pub right_type : Ty
+  pub left : type_at (types_in e.binders) e.left ≡ Ok left_type
+  pub right : type_at (types_in e.binders) e.right ≡ Ok right_type
+  pub left_normal : IsNormal e.left
+  pub right_normal : IsNormal e.right
+  pub left_unknowns : HasUnknowns typ n e.left
+  pub right_unknowns : HasUnknowns typ n e.right
+
+abbrev pub AreGiven : (List ℕ → ℕ → Ty) → ℕ → List Equation → Type 0
+AreGiven typ n [] = Unit {0}
+AreGiven typ n (e ∷ es) = IsGiven typ n e × AreGiven typ n es
+
+-- the instance makes the sides of each equation equal
+abbrev pub MakesEqual : Instance → List Equation → Type 0
+MakesEqual r [] = Unit {0}
+MakesEqual r (e ∷ es) = (bare (instance_of r e.left) ≡ bare (instance_of r e.right)) × MakesEqual r es
+
+-- r is s and then q on the unknowns of the equations
+abbrev pub GoesThrough : Instance → Instance → Instance → List Equation → Type 0
+GoesThrough r s q [] = Unit {0}
+GoesThrough r s q (e ∷ es) = (IsFollowed r.types r.terms s.types s.terms q.types q.terms e.left × IsFollowed r.types r.terms s.types s.terms q.types q.terms e.right) × GoesThrough r s q es
+
+-- r is s followed by another instance
+pub record IsThrough (r s : Instance) (es : List Equation) : Type 0 where
+  pub rest : Instance
+  pub keeps : KeepsTypes rest
+  pub through : GoesThrough r s rest es
+
+-- s makes the sides equal, and each instance that does is s followed by another
+pub record IsMostGeneralFor (es : List Equation) (s : Instance) : Type 0 where
+  pub keeps : KeepsTypes s
+  pub equal : MakesEqual s es
+  pub general : (r : Instance) → KeepsTypes r → MakesEqual r es → IsThrough r s es
+
+-- no instance makes the sides equal
+abbrev pub HaveNone : List Equation → Type 0
+HaveNone es = (r : Instance) → KeepsTypes r → MakesEqual r es → ⊥
+
+-- the answer No is right
+abbrev pub NoIsRight : Type 0
+NoIsRight = (typ : List ℕ → ℕ → Ty) (n : ℕ) (es : List Equation) → AreGiven typ n es → unify es n ≡ No → HaveNone es
