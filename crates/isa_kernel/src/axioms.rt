@@ -65,6 +65,7 @@ impl Axioms {
         }
     }
 
+    /// Puts an axiom last; where memory ran out, the list stays as it was.
     pub fn push(&mut self, item: NamedProp) -> Result<(), AllocError>
         ensures ok { OnOk result (self.new ≡ self.old ++ item ∷ []) }
         ensures err { OnErr result (self.new ≡ self.old) }
@@ -80,12 +81,14 @@ impl Axioms {
         }
     }
 
+    /// How many axioms there are.
     pub fn len(&self) -> usize
         ensures { result ≡ length self.now }
     {
         self.items.len()
     }
 
+    /// The axiom at a place, counted from 0.
     pub fn get(&self, place: usize) -> &NamedProp
         requires { place < length self.now }
         ensures { slice_get self.now place ≡ Some result.now }
@@ -93,6 +96,7 @@ impl Axioms {
         &self.items[place]
     }
 
+    /// The axioms, in order.
     pub fn as_slice(&self) -> &[NamedProp]
         ensures { result.now ≡ self.now }
     {

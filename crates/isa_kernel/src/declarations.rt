@@ -1,7 +1,7 @@
 use isa_terms::{IllTyped, Name, Term, Typ};
 use std::alloc::AllocError;
 
-/// What a theory declares.
+/// What a theory declares, by its name.
 #[derive(Drop)]
 pub enum Declaration {
     /// A type constructor with the number of its arguments.

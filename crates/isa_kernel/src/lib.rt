@@ -1,4 +1,4 @@
-//! Theorems, which only the inferences make.
+//! The kernel: theories, and theorems of Isabelle/Pure's logic, which only its inferences make.
 #![tactic(auto)]
 
 mod axioms;

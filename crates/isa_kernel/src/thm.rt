@@ -26,7 +26,7 @@ use std::alloc::{AllocError, Global};
 use std::marker::Model;
 use std::rc::Rc;
 
-/// A theorem, with its hypotheses and the axioms that it rests on.
+/// A theorem, with its hypotheses and the axioms that it rests on. Only the inferences make one, and each has a derivation in the pure logic.
 #[derive(Drop)]
 pub struct Thm {
     hyps: Rc<Terms>,
@@ -47,12 +47,14 @@ impl Model for Thm {
 }
 
 impl Thm {
+    /// The hypotheses that it stands under.
     pub fn hyps(&self) -> &Terms
         ensures { result.now ≡ self.now.hyps }
     {
         &self.hyps
     }
 
+    /// The proposition that it states.
     pub fn prop(&self) -> &Term
         ensures { result.now ≡ self.now.prop }
     {
