@@ -3,7 +3,6 @@ use Rattle.std.proofs.Common.{◌≡◌, ℕ, List, [], ◌∷◌, Bool, true, f
 use Rattle.isa_terms.specs.Types.{Ty}
 use Rattle.isa_terms.specs.Terms.{Tm, bare}
 use Rattle.isa_terms.specs.Norm.{norm}
-use Rattle.isa_terms.specs.Normal.{IsNormal}
 use Rattle.isa_terms.specs.Instance.{Instance, find_type, find_term, inst_ty, inst_tm, instance_of}
 use Rattle.isa_conversion.specs.Typed.{Typed}
 use Rattle.isa_conversion.specs.Instances.{IsKept}
@@ -15,7 +14,7 @@ use Rattle.isa_conversion.proofs.Heads.{one_type}
 use Rattle.isa_conversion.proofs.Unique.{conv_norm}
 use Rattle.isa_unify.specs.TypeUnification.{ty_has}
 use Rattle.isa_unify.specs.Matching.{matched, ty_matched, has_unknown, has_type_unknown, have_unknown, have_type_unknown, match_from, all_from, match_all_of, IsAsked, AreAsked, MakesAll, AreMatched, AllMatch, DoesAs, ◌>>=◌}
-use Rattle.isa_unify.proofs.Tests.{or_left, or_right, either_true, same_test, some_same}
+use Rattle.isa_unify.proofs.Tests.{or_left, or_right, same_test, some_same}
 use Rattle.isa_unify.proofs.TypeMatches.{TypesWithin, types_within_self, types_within_more, covers_more, ty_finds, ty_completes}
 use Rattle.isa_unify.proofs.PatternMatches.{TermsWithin, terms_within_self, terms_within_more, terms_cover_more, AllGood, good_more, good_kept, good_normal, sound}
 use Rattle.isa_unify.proofs.PatternComplete.{Agrees, Covers, completes}

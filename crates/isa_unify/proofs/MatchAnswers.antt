@@ -1,18 +1,16 @@
 -- What matching answers is the one match, and where it answers none there is none.
-use Rattle.std.proofs.Common.{◌≡◌, ℕ, zero, suc, List, [], ◌∷◌, ◌++◌, Bool, true, false, ◌&&◌, ◌||◌, not, nat_eq, refl, sym, ap, subst, ◌∙◌, cond, ◌⊎◌, inl, inr, Option, Some, None, is_some, option_map, Result, Ok, Err, arith}
+use Rattle.std.proofs.Common.{◌≡◌, ℕ, zero, suc, List, [], ◌∷◌, ◌++◌, Bool, true, false, ◌&&◌, ◌||◌, not, nat_eq, refl, sym, ap, subst, ◌∙◌, cond, ◌⊎◌, inl, inr, Option, Some, None, is_some, option_map, Ok, Err, arith}
 use Rattle.std.specs.List.{slice_get}
 use Rattle.std.proofs.lemmas.Bool.Decides.{nat_tests}
 use Rattle.isa_terms.specs.Types.{Ty}
 use Rattle.isa_terms.specs.Terms.{Tm, Const, Free, Unknown, Bound, Abs, App, bare}
-use Rattle.isa_terms.specs.Typing.{function_of, HasType, type_at}
+use Rattle.isa_terms.specs.Typing.{HasType}
 use Rattle.isa_terms.specs.Norm.{norm}
 use Rattle.isa_terms.specs.Normal.{IsHead, IsNormal}
 use Rattle.isa_terms.specs.Order.{head_of}
-use Rattle.isa_terms.specs.Pattern.{is_unknown, is_bound, is_argument, is_new_bound, distinct_args, is_pattern}
-use Rattle.isa_terms.specs.Instance.{Instance, find_type, find_term, inst_ty, inst_tm, instance_of}
-use Rattle.isa_terms.specs.declared.inst.TermEntry.{TermEntry}
+use Rattle.isa_terms.specs.Pattern.{is_unknown, is_argument, is_new_bound, distinct_args, is_pattern}
+use Rattle.isa_terms.specs.Instance.{Instance, find_type, find_term, inst_ty, inst_tm}
 use Rattle.isa_conversion.specs.Typed.{Typed, TConst, TFree, TUnknown, TBound, TAbs, TApp}
-use Rattle.isa_conversion.specs.Instances.{IsKept}
 use Rattle.isa_conversion.proofs.Typed.{typed_of_type}
 use Rattle.isa_conversion.proofs.Conv.{right_typed, norm_conv}
 use Rattle.isa_conversion.proofs.Normal.{norm_same}
@@ -21,10 +19,10 @@ use Rattle.isa_conversion.proofs.Heads.{IsRigid, one_type}
 use Rattle.isa_conversion.proofs.Unique.{conv_norm}
 use Rattle.isa_unify.specs.TypeUnification.{ty_has}
 use Rattle.isa_unify.specs.Matching.{Flexible, flexible, applied, matched, ty_matched, has_unknown, has_type_unknown, closed_type, match_from, match_of, IsAsked, IsMatch, DoesAs, IsTheMatch, ◌>>=◌}
-use Rattle.isa_unify.proofs.Tests.{both_true, and_true, or_left, or_right, either_true, neither_true, same_test, some_same, value_of}
-use Rattle.isa_unify.proofs.TypeMatches.{TypesWithin, types_within_self, Fit, ty_finds, ty_completes}
-use Rattle.isa_unify.proofs.Flexible.{flexible_app, has_number, are_distinct, IsPattern}
-use Rattle.isa_unify.proofs.PatternMatches.{TermsWithin, terms_within_self, AllGood, good_kept, good_normal, flexible_not_rigid, sound, Finds}
+use Rattle.isa_unify.proofs.Tests.{both_true, and_true, or_left, or_right, either_true, neither_true, same_test, some_same}
+use Rattle.isa_unify.proofs.TypeMatches.{types_within_self, ty_finds, ty_completes}
+use Rattle.isa_unify.proofs.Flexible.{has_number, are_distinct, IsPattern}
+use Rattle.isa_unify.proofs.PatternMatches.{terms_within_self, AllGood, good_kept, good_normal, flexible_not_rigid, sound}
 use Rattle.isa_unify.proofs.PatternComplete.{Agrees, Covers, completes}
 
 -- ---- patterns by their parts

@@ -1,22 +1,20 @@
 -- Where there is a match, matching of patterns finds it.
-use Rattle.std.proofs.Common.{◌≡◌, ℕ, ◌+◌, ◌≤◌, List, [], ◌∷◌, ◌++◌, map, Bool, true, false, ◌&&◌, ◌||◌, nat_eq, refl, sym, ap, subst, ◌∙◌, cond, ◌⊎◌, inl, inr, Option, Some, None, is_some, unwrap_or, arith}
-use Rattle.std.specs.List.{slice_get}
+use Rattle.std.proofs.Common.{◌≡◌, ℕ, List, [], ◌∷◌, map, Bool, true, false, ◌&&◌, nat_eq, refl, sym, ap, subst, ◌∙◌, cond, inl, inr, Option, Some, None, is_some}
 use Rattle.std.specs.Cmp.Lexicographic.{bytes_decides}
 use Rattle.std.proofs.lemmas.Bool.Decides.{Decides-eqb}
 use Rattle.isa_terms.specs.Types.{Ty}
 use Rattle.isa_terms.specs.Terms.{Tm, Const, Free, Unknown, Bound, Abs, App, bare}
-use Rattle.isa_terms.specs.Equal.{name_eq, ty_eq, tm_eq}
+use Rattle.isa_terms.specs.Equal.{name_eq, ty_eq}
 use Rattle.isa_terms.specs.Typing.{function_of, HasType}
 use Rattle.isa_terms.specs.Replace.{raise}
 use Rattle.isa_terms.specs.Norm.{norm}
 use Rattle.isa_terms.specs.Normal.{IsHead, IsNormal}
-use Rattle.isa_terms.specs.Instance.{Instance, find_type, find_term, inst_ty, inst_tm, set_term}
+use Rattle.isa_terms.specs.Instance.{Instance, find_type, find_term, inst_ty, inst_tm}
 use Rattle.isa_terms.specs.declared.inst.TypeEntry.{TypeEntry}
 use Rattle.isa_terms.specs.declared.inst.TermEntry.{TermEntry}
 use Rattle.isa_terms.proofs.Bare.{tm_decides}
-use Rattle.isa_terms.proofs.Equal.{ty_decides}
-use Rattle.isa_conversion.specs.Typed.{Typed, TConst, TFree, TUnknown, TBound, TAbs, TApp}
-use Rattle.isa_conversion.specs.Conversion.{Conv, CRefl, CSym, CTrans, CApp, CAbs, CBeta, CEta}
+use Rattle.isa_conversion.specs.Typed.{Typed, TBound, TAbs, TApp}
+use Rattle.isa_conversion.specs.Conversion.{Conv}
 use Rattle.isa_conversion.specs.Instances.{IsKept}
 use Rattle.isa_conversion.proofs.Typed.{typed_of_type}
 use Rattle.isa_conversion.proofs.Names.{norm_same_conv}
@@ -26,11 +24,11 @@ use Rattle.isa_conversion.proofs.Instances.{inst_typed, closed_anywhere}
 use Rattle.isa_conversion.proofs.Heads.{IsRigid, app_norm, inst_rigid, rigid_spine}
 use Rattle.isa_conversion.proofs.Unique.{app_typed, abs_typed, conv_norm}
 use Rattle.isa_unify.specs.TypeUnification.{ty_has}
-use Rattle.isa_unify.specs.Matching.{Binder, Flexible, flexible, solution, is_closed, solved, bound_to, typed, matched, has_unknown, has_type_unknown, app_parts, ty_matched, ◌>>=◌}
-use Rattle.isa_unify.proofs.Tests.{both_true, or_left, or_right, some_same, value_of, name_self, name_true, number_self, number_true}
-use Rattle.isa_unify.proofs.TypeMatches.{TypesWithin, types_within_self, types_within_more, Fit, ty_finds, ty_completes}
-use Rattle.isa_unify.proofs.Flexible.{apps, flexible_unknown, flexible_type_unknown, flexible_typed, flexible_matched, are_distinct, IsPattern}
-use Rattle.isa_unify.proofs.Solutions.{types_of, Fits, fits_more, fits_map, IsSolution, solution_exists, solution_is, solution_only, misses_all, conv_closed, fit_domain, fit_range}
+use Rattle.isa_unify.specs.Matching.{Binder, Flexible, flexible, is_closed, solved, bound_to, typed, matched, has_unknown, has_type_unknown, app_parts, ty_matched, ◌>>=◌}
+use Rattle.isa_unify.proofs.Tests.{or_left, or_right, some_same, value_of}
+use Rattle.isa_unify.proofs.TypeMatches.{TypesWithin, types_within_self, Fit, ty_finds, ty_completes}
+use Rattle.isa_unify.proofs.Flexible.{apps, flexible_unknown, flexible_typed, are_distinct, IsPattern}
+use Rattle.isa_unify.proofs.Solutions.{types_of, Fits, fits_more, fits_map, solution_exists, solution_is, solution_only, misses_all, conv_closed, fit_domain, fit_range}
 use Rattle.isa_unify.proofs.PatternMatches.{find_set_term, unknown_true, unknown_self, entry_of, with_term, Place, placed, sound, flexible_becomes, flexible_not_rigid, opened_normal}
 
 -- the types of s are among those of r, and its terms are, but for the names of binders, the normal forms of those of r

@@ -1,9 +1,7 @@
 -- Entries that are looked up late.
-use Rattle.std.proofs.Common.{◌≡◌, List, [], ◌∷◌, ◌++◌, refl, sym, ap, ◌∙◌}
-use Rattle.isa_terms.specs.Types.{Ty}
-use Rattle.isa_terms.specs.Instance.{inst_ty}
+use Rattle.std.proofs.Common.{◌≡◌, List, [], ◌∷◌, ◌++◌, refl, ap, ◌∙◌}
 use Rattle.isa_terms.specs.declared.inst.TypeEntry.{TypeEntry}
-use Rattle.isa_unify.specs.TypeUnification.{followed_by, entries_under}
+use Rattle.isa_unify.specs.TypeUnification.{followed_by}
 use Rattle.isa_unify.specs.TypeStacks.{found_before, resolved_before, resolved}
 use Rattle.isa_unify.proofs.TypeInstances.{inst_followed, inst_nothing}
 
