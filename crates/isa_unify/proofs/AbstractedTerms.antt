@@ -1,31 +1,26 @@
 -- The terms that are put in for unknowns: their types, and what they give at the variables.
-use Rattle.std.proofs.Common.{◌≡◌, ◌≢◌, ◌⊎◌, inl, inr, ℕ, zero, suc, ◌+◌, ◌-◌, ◌<◌, ◌≤◌, List, [], ◌∷◌, ◌++◌, map, filter, length, Bool, true, false, cond, not, ◌&&◌, ◌||◌, nat_eq, nat_lt, Option, Some, None, refl, sym, ap, ◌∙◌, subst, arith}
+use Rattle.std.proofs.Common.{◌≡◌, ℕ, zero, suc, ◌+◌, ◌-◌, ◌≤◌, List, [], ◌∷◌, map, length, false, cond, nat_eq, nat_lt, Some, None, refl, sym, ap, ◌∙◌, subst, arith}
 use Rattle.std.specs.Prelude.{unwrap_or}
 use Rattle.std.specs.List.{slice_get}
-use Rattle.std.proofs.lemmas.Bool.Decides.{nat_tests}
-use Rattle.isa_terms.specs.Types.{Ty, Tys, TyCon, TyFixed, TyUnknown, NoTys, MoreTys, ty_depth, tys_depth}
-use Rattle.isa_terms.specs.Terms.{Tm, Const, Free, Unknown, Bound, Abs, App, bare}
-use Rattle.isa_terms.specs.Typing.{function_of, function_parts, HasType}
-use Rattle.isa_terms.specs.Norm.{loose, norm, eta}
-use Rattle.isa_terms.specs.Normal.{IsNormal}
+use Rattle.isa_terms.specs.Types.{Ty, ty_depth}
+use Rattle.isa_terms.specs.Terms.{Tm, Const, Free, Unknown, Bound, Abs, App}
+use Rattle.isa_terms.specs.Typing.{function_of}
+use Rattle.isa_terms.specs.Norm.{eta}
 use Rattle.isa_terms.specs.Instance.{find_term, inst_ty, inst_tm}
-use Rattle.isa_terms.specs.declared.inst.TypeEntry.{TypeEntry}
 use Rattle.isa_terms.specs.declared.inst.TermEntry.{TermEntry}
-use Rattle.isa_conversion.specs.Typed.{Typed, TConst, TFree, TUnknown, TBound, TAbs, TApp}
-use Rattle.isa_conversion.specs.Conversion.{Conv, CSym, CTrans, CRefl, CApp}
+use Rattle.isa_conversion.specs.Typed.{Typed, TUnknown, TBound}
+use Rattle.isa_conversion.specs.Conversion.{Conv, CSym, CTrans}
 use Rattle.isa_conversion.specs.Instances.{IsKept}
 use Rattle.isa_conversion.proofs.Typed.{type_of_typed}
-use Rattle.isa_conversion.proofs.Conv.{left_typed, right_typed, norm_conv}
-use Rattle.isa_conversion.proofs.Names.{norm_same_conv}
-use Rattle.isa_conversion.proofs.Unique.{conv_norm, app_typed, domain_same, range_same}
-use Rattle.isa_conversion.proofs.Instances.{closed_anywhere}
+use Rattle.isa_conversion.proofs.Conv.{right_typed}
+use Rattle.isa_conversion.proofs.Unique.{app_typed, domain_same, range_same}
 use Rattle.isa_conversion.proofs.Abstracting as abstracting
 use Rattle.isa_conversion.proofs.Abstracting.{AreDistinct, Among, AreKnown, arrow, tower, tower_typed, tower_closed, tower_applied, tower_moved, eta_plain, eta_plain_conv, eta_moved_conv, on_bounds_typed, on_bounds_conv}
-use Rattle.isa_conversion.proofs.Pruning.{IsWithin, known_at, known_all, among_or_not, on_bounds_misses, PairTypes}
+use Rattle.isa_conversion.proofs.Pruning.{IsWithin, PairTypes}
 use Rattle.isa_unify.specs.declared.equation.Variable.{Variable}
-use Rattle.isa_unify.specs.Unification.{types_in, variable, no_variable, bind_all, place_behind, moved, abstracted, arrows, range_behind, on_bounds, over, becomes}
+use Rattle.isa_unify.specs.Unification.{types_in, variable, bind_all, place_behind, moved, abstracted, arrows, range_behind, on_bounds, becomes}
 use Rattle.isa_unify.proofs.TypeInstances.{inst_nothing}
-use Rattle.isa_unify.proofs.Unknowns.{Key, key, key_eq, key_eq-true, key_eq_self}
+use Rattle.isa_unify.proofs.Unknowns.{Key, key_eq, key_eq_self}
 use Rattle.isa_unify.proofs.Deciding.{unknown}
 
 -- ---- the variables of binders

@@ -1,5 +1,5 @@
 -- The answer's entries: what they make of the terms that were asked for, and how instances go through them.
-use Rattle.std.proofs.Common.{◌≡◌, ◌⊎◌, inl, inr, ℕ, List, [], ◌∷◌, ◌++◌, map, Bool, true, false, cond, ◌&&◌, nat_eq, Option, Some, None, is_some, unwrap_or, refl, sym, ap, ◌∙◌, subst, arith}
+use Rattle.std.proofs.Common.{◌≡◌, ℕ, List, [], ◌∷◌, ◌++◌, map, Bool, true, false, cond, ◌&&◌, nat_eq, Some, None, is_some, unwrap_or, refl, sym, ap, ◌∙◌, subst, arith}
 use Rattle.std.specs.Cmp.Lexicographic.{bytes_decides}
 use Rattle.std.proofs.lemmas.Bool.Decides.{nat_tests}
 use Rattle.isa_terms.specs.Types.{Ty, Tys, TyCon, TyFixed, TyUnknown, NoTys, MoreTys}
@@ -12,16 +12,15 @@ use Rattle.isa_terms.specs.declared.inst.TypeEntry.{TypeEntry}
 use Rattle.isa_terms.specs.declared.inst.TermEntry.{TermEntry}
 use Rattle.isa_terms.proofs.Equal.{ty_decides}
 use Rattle.isa_conversion.specs.Typed.{Typed, TConst, TFree, TUnknown, TBound, TAbs, TApp}
-use Rattle.isa_conversion.specs.Conversion.{Conv, CRefl, CSym, CTrans, CApp, CAbs}
-use Rattle.isa_conversion.specs.Instances.{IsKept, IsFollowed}
+use Rattle.isa_conversion.specs.Conversion.{Conv, CRefl, CApp, CAbs}
+use Rattle.isa_conversion.specs.Instances.{IsKept}
 use Rattle.isa_conversion.proofs.Typed.{type_of_typed}
 use Rattle.isa_conversion.proofs.Conv.{right_typed, norm_conv}
 use Rattle.isa_conversion.proofs.Names.{norm_same_conv}
-use Rattle.isa_conversion.proofs.Unique.{conv_norm}
 use Rattle.isa_conversion.proofs.Heads.{one_type}
 use Rattle.isa_conversion.proofs.Instances.{get_inst}
-use Rattle.isa_conversion.proofs.Composing.{Covers, covers_front, covers_back, kept_append, some_front, number_self, typ_self, and_true}
-use Rattle.isa_conversion.proofs.Valuations.{Values, val, AreFit, val_conv, val_norm, conv_anywhere}
+use Rattle.isa_conversion.proofs.Composing.{Covers, covers_front, covers_back, some_front, number_self, typ_self, and_true}
+use Rattle.isa_conversion.proofs.Valuations.{Values, val, AreFit, conv_anywhere}
 use Rattle.isa_unify.specs.TypeUnification.{entries_under}
 use Rattle.isa_unify.specs.declared.equation.Equation.{Equation}
 use Rattle.isa_unify.specs.Unification.{becomes, with_type_unknowns, with_all_type_unknowns, with_types, with_unknowns, asked_types, asked_terms}

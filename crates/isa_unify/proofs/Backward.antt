@@ -1,7 +1,6 @@
 -- What the parts of an equation say of the equation, and the types of the parts.
-use Rattle.std.proofs.Common.{◌≡◌, ◌⊎◌, inl, inr, ℕ, zero, suc, ◌+◌, List, [], ◌∷◌, ◌++◌, map, length, Bool, true, false, cond, nat_eq, Option, Some, None, refl, sym, ap, ◌∙◌, subst, arith}
+use Rattle.std.proofs.Common.{◌≡◌, ℕ, List, [], ◌∷◌, ◌++◌, Bool, true, false, cond, nat_eq, Option, Some, None, refl, sym, ap, ◌∙◌, subst, arith}
 use Rattle.std.specs.Prelude.{option_map}
-use Rattle.std.specs.List.{slice_get}
 use Rattle.std.specs.Cmp.Lexicographic.{bytes_decides}
 use Rattle.std.proofs.lemmas.Bool.Decides.{nat_tests}
 use Rattle.isa_terms.specs.Types.{Ty}
@@ -10,25 +9,23 @@ use Rattle.isa_terms.specs.Equal.{name_eq}
 use Rattle.isa_terms.specs.Typing.{function_of}
 use Rattle.isa_terms.specs.Replace.{raise}
 use Rattle.isa_terms.specs.Norm.{norm}
-use Rattle.isa_terms.specs.Normal.{IsHead, IsNormal}
+use Rattle.isa_terms.specs.Normal.{IsNormal}
 use Rattle.isa_terms.specs.Instance.{inst_ty}
 use Rattle.isa_terms.specs.declared.inst.TypeEntry.{TypeEntry}
-use Rattle.isa_conversion.specs.Typed.{Typed, TConst, TFree, TUnknown, TBound, TAbs, TApp}
-use Rattle.isa_conversion.specs.Conversion.{Conv, CSym, CTrans, CRefl, CAbs}
+use Rattle.isa_conversion.specs.Typed.{Typed}
+use Rattle.isa_conversion.specs.Conversion.{Conv, CSym, CTrans, CAbs}
 use Rattle.isa_conversion.proofs.Conv.{left_typed, right_typed}
 use Rattle.isa_conversion.proofs.Names.{norm_same_conv, renamed_conv}
-use Rattle.isa_conversion.proofs.Unique.{conv_norm, abs_typed, app_typed, domain_same, range_same}
-use Rattle.isa_conversion.proofs.Opening.{close_conv, next_typed}
-use Rattle.isa_conversion.proofs.Normal.{raise_normal, raise_head}
-use Rattle.isa_conversion.proofs.Heads.{IsSpine, IsRigid, rigid_spine, normal_spine, app_norm, apps_again, one_type}
+use Rattle.isa_conversion.proofs.Unique.{conv_norm, abs_typed, domain_same}
+use Rattle.isa_conversion.proofs.Opening.{close_conv}
+use Rattle.isa_conversion.proofs.Heads.{IsSpine, IsRigid, rigid_spine, normal_spine, apps_again, one_type}
 use Rattle.isa_conversion.proofs.Valuations.{Values, val, AreFit, val_raise, val_rigid, val_typed}
 use Rattle.isa_unify.specs.declared.equation.Variable.{Variable}
 use Rattle.isa_unify.specs.declared.equation.Equation.{Equation}
 use Rattle.isa_unify.specs.declared.progress.Parts.{Parts}
-use Rattle.isa_unify.specs.declared.progress.Parts.TheVariants.{Flexible, Clash, Into, Heads}
+use Rattle.isa_unify.specs.declared.progress.Parts.TheVariants.{Flexible, Clash}
 use Rattle.isa_unify.specs.Spines.{head_of, args_of}
-use Rattle.isa_unify.specs.Unification.{paired, inner_parts, typed_parts, meet, opened, stripped, parts_at, types_in}
-use Rattle.isa_unify.proofs.TypeInstances.{inst_nothing}
+use Rattle.isa_unify.specs.Unification.{paired, inner_parts, typed_parts, meet, opened, parts_at, types_in}
 use Rattle.isa_unify.proofs.Meaning.{IsAtom, head_atom, head_rigid, Holds, EachHolds, PairsHold, PartsHold, types_under}
 
 -- ---- lists that end with one more

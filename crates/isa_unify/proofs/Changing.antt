@@ -1,38 +1,28 @@
 -- How the outcome of a state comes from that of the state after a change: types for type unknowns, or terms for unknowns.
-use Rattle.std.proofs.Common.{◌≡◌, ◌⊎◌, inl, inr, ℕ, zero, suc, ◌+◌, ◌<◌, List, [], ◌∷◌, ◌++◌, map, length, Bool, true, false, cond, not, ◌&&◌, ◌||◌, nat_eq, nat_lt, Option, Some, None, refl, sym, ap, ◌∙◌, subst, arith}
-use Rattle.std.proofs.lemmas.Bool.Decides.{nat_tests}
+use Rattle.std.proofs.Common.{◌≡◌, ℕ, ◌<◌, List, [], ◌∷◌, map, true, ◌||◌, refl, sym, ap, ◌∙◌, subst}
 use Rattle.isa_terms.specs.Types.{Ty}
-use Rattle.isa_terms.specs.Terms.{Tm, Const, Free, Unknown, Bound, Abs, App, bare}
-use Rattle.isa_terms.specs.Equal.{ty_eq}
-use Rattle.isa_terms.specs.Typing.{function_of}
-use Rattle.isa_terms.specs.Norm.{loose, norm}
-use Rattle.isa_terms.specs.Normal.{redex_at, redex, IsHead, IsNormal}
+use Rattle.isa_terms.specs.Terms.{Tm, Const, Free, Unknown, Bound, Abs, App}
 use Rattle.isa_terms.specs.Instance.{inst_ty, inst_tm}
 use Rattle.isa_terms.specs.declared.inst.TypeEntry.{TypeEntry}
 use Rattle.isa_terms.specs.declared.inst.TermEntry.{TermEntry}
-use Rattle.isa_terms.proofs.Equal.{ty_decides}
 use Rattle.isa_conversion.specs.Typed.{Typed}
-use Rattle.isa_conversion.specs.Conversion.{Conv, CSym, CTrans, CRefl}
+use Rattle.isa_conversion.specs.Conversion.{Conv, CSym, CTrans}
 use Rattle.isa_conversion.specs.Instances.{IsKept, types_after}
 use Rattle.isa_conversion.proofs.Conv.{left_typed, right_typed, norm_conv}
-use Rattle.isa_conversion.proofs.Normal.{norm_normal}
-use Rattle.isa_conversion.proofs.Unique.{conv_norm}
 use Rattle.isa_conversion.proofs.Composing.{after_ty}
-use Rattle.isa_conversion.proofs.Instances.{inst_typed, unknown_typed}
+use Rattle.isa_conversion.proofs.Instances.{inst_typed}
 use Rattle.isa_conversion.proofs.Heads.{one_type}
-use Rattle.isa_conversion.proofs.Valuations.{Values, val, AreFit, AgreeOn, agree_conv, values_of, values_fit, values_after, val_inst, val_val, val_typed, val_norm, after_fit}
+use Rattle.isa_conversion.proofs.Valuations.{Values, val, AreFit, AgreeOn, agree_conv, values_of, values_fit, values_after, val_inst, val_val, val_norm, after_fit}
 use Rattle.isa_unify.specs.declared.equation.Variable.{Variable}
 use Rattle.isa_unify.specs.declared.equation.Equation.{Equation}
 use Rattle.isa_unify.specs.declared.progress.State.{State}
-use Rattle.isa_unify.specs.TypeUnification.{entries_under}
-use Rattle.isa_unify.specs.Unification.{types_in, filled, filled_equation, filled_entry, filled_state, retyped, retyped_variable, retyped_equation, retyped_entry, retyped_state}
+use Rattle.isa_unify.specs.Unification.{types_in, filled, filled_equation, retyped, retyped_variable, retyped_equation}
 use Rattle.isa_unify.proofs.TypeInstances.{inst_nothing}
-use Rattle.isa_unify.proofs.Unknowns.{Key, key, key_eq, key_eq-true, key_eq_self, stands, either_true, or_left, or_right}
+use Rattle.isa_unify.proofs.Unknowns.{Key, key, key_eq_self, stands, or_left, or_right}
 use Rattle.isa_unify.proofs.Measure.{occurs}
-use Rattle.isa_unify.proofs.Assigned.{some_term_has, assigns, stands-filled, stands-inst_tm, occurs-filled, retyped_key, CameFrom, stands-retyped, occurs-retyped}
-use Rattle.isa_unify.proofs.Meaning.{Holds, EachHolds, types_under}
-use Rattle.isa_unify.proofs.Backward.{SameType}
-use Rattle.isa_unify.proofs.Ready.{AllNormal, AllTyped, types_retyped, retyped_typed}
+use Rattle.isa_unify.proofs.Assigned.{some_term_has}
+use Rattle.isa_unify.proofs.Meaning.{EachHolds, types_under}
+use Rattle.isa_unify.proofs.Ready.{AllNormal, AllTyped}
 
 abbrev pub Sig : Type 0
 Sig = List ℕ → ℕ → Ty

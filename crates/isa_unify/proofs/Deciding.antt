@@ -1,34 +1,21 @@
 -- The first place that decides, and what it says of an instance that makes `?F xs` equal to the term.
-use Rattle.std.proofs.Common.{◌≡◌, ◌≢◌, ◌⊎◌, inl, inr, ℕ, zero, suc, ◌+◌, ◌-◌, ◌<◌, ◌≤◌, List, [], ◌∷◌, ◌++◌, map, filter, length, Bool, true, false, cond, not, ◌&&◌, ◌||◌, nat_eq, nat_lt, Option, Some, None, refl, sym, ap, ◌∙◌, subst, arith}
+use Rattle.std.proofs.Common.{◌≡◌, ◌≢◌, inl, inr, ℕ, suc, ◌+◌, ◌<◌, ◌≤◌, List, [], ◌∷◌, ◌++◌, map, filter, length, Bool, true, false, cond, not, ◌&&◌, ◌||◌, nat_eq, nat_lt, Option, Some, None, refl, sym, ap, ◌∙◌, subst, arith}
 use Rattle.std.specs.Prelude.{option_map, option_and_then, unwrap_or}
 use Rattle.std.specs.List.{slice_get}
-use Rattle.std.specs.Cmp.Lexicographic.{bytes_decides}
 use Rattle.std.proofs.lemmas.Bool.Decides.{nat_tests}
 use Rattle.isa_terms.specs.Types.{Ty, TyCon, NoTys}
-use Rattle.isa_terms.specs.Terms.{Tm, Const, Free, Unknown, Bound, Abs, App, bare}
-use Rattle.isa_terms.specs.Equal.{name_eq}
+use Rattle.isa_terms.specs.Terms.{Tm, Const, Free, Unknown, Bound, Abs, App}
 use Rattle.isa_terms.specs.Typing.{function_of}
-use Rattle.isa_terms.specs.Replace.{raise, put, replace}
-use Rattle.isa_terms.specs.Norm.{loose, eta, eta_at, norm}
-use Rattle.isa_terms.specs.Normal.{IsHead, IsNormal}
-use Rattle.isa_terms.specs.Instance.{inst_ty}
-use Rattle.isa_terms.specs.declared.inst.TypeEntry.{TypeEntry}
-use Rattle.isa_conversion.specs.Typed.{Typed, TConst, TFree, TUnknown, TBound, TAbs, TApp}
+use Rattle.isa_terms.specs.Replace.{raise, replace}
+use Rattle.isa_terms.specs.Norm.{loose, eta}
+use Rattle.isa_conversion.specs.Typed.{Typed, TBound}
 use Rattle.isa_conversion.proofs.Typed.{unloose}
-use Rattle.isa_conversion.proofs.Unique.{abs_typed, app_typed}
-use Rattle.isa_conversion.proofs.Heads.{IsSpine, IsRigid, rigid_spine, normal_spine, app_norm}
-use Rattle.isa_conversion.proofs.Loose.{or_false, neither}
-use Rattle.isa_conversion.proofs.Erased.{Erased}
-use Rattle.isa_conversion.proofs.Abstracting.{on_bounds, Absent, AreDistinct, AreMissing, Among, arrow, AreKnown}
-use Rattle.isa_conversion.proofs.Pruning.{closed_missing, IsWithin}
-use Rattle.isa_conversion.proofs.Size.{size, spine_size, size_abs, size_arg, size_fun, spine_size_le, size_closed, size_applied}
-use Rattle.isa_conversion.proofs.Valuations.{Values, val, AreFit, val_typed, val_rigid, val_on_bounds}
-use Rattle.isa_unify.specs.declared.equation.Variable.{Variable}
-use Rattle.isa_unify.specs.declared.progress.Verdict.{Verdict}
-use Rattle.isa_unify.specs.declared.progress.Verdict.TheVariants.{Fine, Refused, Strays, Prunes}
+use Rattle.isa_conversion.proofs.Unique.{app_typed}
+use Rattle.isa_conversion.proofs.Heads.{IsSpine, IsRigid}
+use Rattle.isa_conversion.proofs.Loose.{or_false}
+use Rattle.isa_conversion.proofs.Abstracting.{on_bounds, Absent, AreDistinct, Among, arrow, AreKnown}
 use Rattle.isa_unify.specs.Spines.{head_of, args_of, is_flexible, has_number, are_distinct, bounds_of, if_distinct, distinct_bounds}
-use Rattle.isa_unify.specs.Unification.{types_in, allowed, at_pattern, at_unknown, first_verdict, first_place}
-use Rattle.isa_unify.proofs.Unknowns.{Key, key, key_eq_self, stands, or_left, or_right}
+use Rattle.isa_unify.proofs.Unknowns.{Key, key, or_right}
 
 -- ---- numbers in lists
 pub among_has : (ns : List ℕ) (j : ℕ) → has_number ns j ≡ true → Among j ns

@@ -1,57 +1,40 @@
 -- The step of unification at an equation, and what it says of the instances that solve the state.
-use Rattle.std.proofs.Common.{◌≡◌, ◌≢◌, ◌⊎◌, inl, inr, ℕ, zero, suc, ◌+◌, ◌-◌, ◌<◌, ◌≤◌, List, [], ◌∷◌, ◌++◌, map, filter, length, Bool, true, false, cond, not, ◌&&◌, ◌||◌, nat_eq, nat_lt, Option, Some, None, refl, sym, ap, ◌∙◌, subst, arith}
+use Rattle.std.proofs.Common.{◌≡◌, ◌⊎◌, inl, inr, ℕ, List, [], ◌∷◌, ◌++◌, map, Bool, true, false, cond, ◌&&◌, ◌||◌, nat_eq, Option, Some, None, refl, sym, ap, ◌∙◌, subst, arith}
 use Rattle.std.specs.Prelude.{option_map}
 use Rattle.std.specs.Cmp.Lexicographic.{bytes_decides}
 use Rattle.std.proofs.lemmas.Bool.Decides.{nat_tests}
 use Rattle.isa_terms.specs.Types.{Ty}
-use Rattle.isa_terms.specs.Terms.{Tm, Const, Free, Unknown, Bound, Abs, App, bare}
+use Rattle.isa_terms.specs.Terms.{Tm, Const, Free, Unknown, Bound, Abs, App}
 use Rattle.isa_terms.specs.Equal.{name_eq}
-use Rattle.isa_terms.specs.Norm.{loose, norm}
-use Rattle.isa_terms.specs.Normal.{IsHead, IsNormal}
-use Rattle.isa_terms.specs.Instance.{inst_ty, inst_tm}
+use Rattle.isa_terms.specs.Normal.{IsNormal}
+use Rattle.isa_terms.specs.Instance.{inst_ty}
 use Rattle.isa_terms.specs.declared.inst.TypeEntry.{TypeEntry}
 use Rattle.isa_terms.specs.declared.inst.TermEntry.{TermEntry}
-use Rattle.isa_conversion.specs.Typed.{Typed, TBound, TApp}
-use Rattle.isa_conversion.specs.Conversion.{Conv, CSym, CTrans, CRefl}
-use Rattle.isa_conversion.proofs.Conv.{left_typed, right_typed}
-use Rattle.isa_conversion.proofs.Unique.{conv_norm, app_typed}
-use Rattle.isa_conversion.proofs.Instances.{closed_anywhere}
-use Rattle.isa_conversion.proofs.Heads.{IsSpine, IsRigid, rigid_spine, normal_spine, one_type}
-use Rattle.isa_conversion.proofs.Loose.{loose_bare}
+use Rattle.isa_conversion.specs.Typed.{Typed}
+use Rattle.isa_conversion.proofs.Unique.{app_typed}
+use Rattle.isa_conversion.proofs.Heads.{IsSpine, IsRigid, normal_spine}
 use Rattle.isa_conversion.proofs.Abstracting as abstracting
 use Rattle.isa_conversion.proofs.Abstracting.{AreDistinct, Among, AreKnown, arrow, inst_typs, inst_arrow, on_bounds_typed}
-use Rattle.isa_conversion.proofs.Pruning.{IsWithin, applied_within, closed_missing}
-use Rattle.isa_conversion.proofs.Size.{size, spine_size, size_conv, size_applied, size_closed, spine_size_le}
-use Rattle.isa_conversion.proofs.Valuations.{Values, val, AreFit, val_typed, val_rigid, val_on_bounds}
+use Rattle.isa_conversion.proofs.Valuations.{Values, AreFit}
 use Rattle.isa_unify.specs.declared.equation.Variable.{Variable}
 use Rattle.isa_unify.specs.declared.equation.Equation.{Equation}
 use Rattle.isa_unify.specs.declared.progress.Parts.{Parts}
 use Rattle.isa_unify.specs.declared.progress.Parts.TheVariants.{Flexible, Clash, Into, Heads}
-use Rattle.isa_unify.specs.declared.progress.Verdict.{Verdict}
-use Rattle.isa_unify.specs.declared.progress.Verdict.TheVariants.{Fine, Refused, Strays, Prunes}
 use Rattle.isa_unify.specs.declared.progress.State.{State}
-use Rattle.isa_unify.specs.declared.progress.Answer.{Answer}
-use Rattle.isa_unify.specs.declared.progress.Answer.TheVariants.{Yes, No, Outside}
-use Rattle.isa_unify.specs.Descent.{Step, Done, Lighter, Solved}
-use Rattle.isa_unify.specs.TypeUnification.{Unifies, IsMostGeneral, unify_typs}
-use Rattle.isa_unify.specs.Spines.{head_of, args_of, has_number, distinct_bounds}
-use Rattle.isa_unify.specs.Unification.{types_in, paired, inner_parts, typed_parts, meet, opened, stripped, parts_at, UnifyStep, abstracted, over, range_behind, becomes, filled_state, with_first, after_new, with_new, renewed, first_place, solve_at, solve, agreeing, solve_same, solve_two, both_become, solve_unknowns, on_pattern, flexible_step, after_types, front_step, unify_step, retyped_equation, retyped_state}
+use Rattle.isa_unify.specs.TypeUnification.{IsMostGeneral, unify_typs}
+use Rattle.isa_unify.specs.Spines.{head_of, args_of, distinct_bounds}
+use Rattle.isa_unify.specs.Unification.{types_in, paired, inner_parts, typed_parts, meet, opened, parts_at, with_first, solve, solve_same, solve_two, solve_unknowns, on_pattern, flexible_step, after_types, front_step, unify_step, retyped_equation, retyped_state}
 use Rattle.isa_unify.proofs.TypesUnify.{types_most_general, types_no_unifier}
 use Rattle.isa_unify.proofs.Unknowns.{Key, key, key_eq, key_eq-true, key_eq_self, stands, either_true, both_true, and_true, or_left, or_right}
 use Rattle.isa_unify.proofs.Measure.{occurs, AreParts, meet_paired, parts_fall}
-use Rattle.isa_unify.proofs.Assigned.{some_term_has, fine_stands}
-use Rattle.isa_unify.proofs.Meaning.{IsAtom, head_atom, head_rigid, Holds, EachHolds, PartsHold, parts_hold, types_under}
+use Rattle.isa_unify.proofs.Meaning.{IsAtom, head_atom, head_rigid, EachHolds, PartsHold, parts_hold}
 use Rattle.isa_unify.proofs.Backward.{SameType, IsDecided, parts_back}
-use Rattle.isa_unify.proofs.Ready.{AllNormal, AllTyped, all_normal_append, all_typed_append, PartsTyped, parts_typed, parts_normal, abs_parts_typed, open_typed, swapped}
-use Rattle.isa_unify.proofs.Changing.{Sig, KnownKey, value, Ready, Sides, AllSided, typed_sided}
-use Rattle.isa_unify.proofs.Outcomes.{Outcome, Retyped, finished, retyped_outcome, retyped_holds, retyped_fit, retyped_values, retyped_sig}
+use Rattle.isa_unify.proofs.Ready.{AllTyped, all_normal_append, all_typed_append, PartsTyped, parts_typed, parts_normal, abs_parts_typed, open_typed, swapped}
+use Rattle.isa_unify.proofs.Changing.{Sig, KnownKey, Ready, AllSided, typed_sided}
+use Rattle.isa_unify.proofs.Outcomes.{Outcome, finished, retyped_outcome, retyped_holds, retyped_fit, retyped_values, retyped_sig}
 use Rattle.isa_unify.proofs.Deciding.{unknown, applied_is, AreBounds, distinct_bounds_are}
-use Rattle.isa_unify.proofs.Verdicts.{WithinAt, fine_within, PrunePlace, VerdictTyped, verdict_typed, VerdictHolds, verdict_holds}
-use Rattle.isa_unify.proofs.AbstractedTerms.{names, typs, bounds_known, unknown_type, hit}
-use Rattle.isa_unify.proofs.Solving.{Front, front_left, front_right, solving_assignment, solving_outcome, known_inst, stands_on_bounds}
-use Rattle.isa_unify.proofs.Renewing.{Place, Fresh, Renewed, over_is, renewing_assignment, pruning_outcome, with_sig, Twice, pair_types, same_place, same_within, same_outcome, agreeing_all}
-use Rattle.isa_unify.proofs.Pairing.{Two, two_place, both_terms, two_assignment, two_outcome}
-use Rattle.isa_unify.proofs.Leading.{Hopeless, Leads, assigned_leads, retyped_ready, retyped_all_typed}
+use Rattle.isa_unify.proofs.Solving.{front_left, front_right, stands_on_bounds}
+use Rattle.isa_unify.proofs.Leading.{Leads, retyped_ready, retyped_all_typed}
 use Rattle.isa_unify.proofs.Stepping.{StepView, rest_known, solve_view, same_view, two_view}
 
 -- a term that is well typed

@@ -1,15 +1,11 @@
 -- The answers of unification are right.
-use Rattle.std.proofs.Common.{◌≡◌, ◌⊎◌, inl, inr, ℕ, zero, suc, ◌+◌, ◌<◌, List, [], ◌∷◌, ◌++◌, map, length, Bool, true, false, cond, ◌&&◌, ◌||◌, Option, Some, None, Result, Ok, Err, refl, sym, ap, ◌∙◌, subst, arith}
+use Rattle.std.proofs.Common.{◌≡◌, ◌⊎◌, inl, inr, ℕ, List, [], ◌∷◌, ◌++◌, map, Bool, true, false, cond, ◌||◌, Option, Some, None, refl, sym, ap, ◌∙◌, subst}
 use Rattle.std.specs.Prelude.{is_some}
 use Rattle.isa_terms.specs.Types.{Ty}
-use Rattle.isa_terms.specs.Terms.{Tm, Const, Free, Unknown, Bound, Abs, App, bare}
-use Rattle.isa_terms.specs.Typing.{type_at}
-use Rattle.isa_terms.specs.Norm.{norm}
-use Rattle.isa_terms.specs.Normal.{IsNormal}
-use Rattle.isa_terms.specs.Instance.{Instance, instance_of, find_term, inst_ty, inst_tm}
+use Rattle.isa_terms.specs.Terms.{Tm, Const, Free, Unknown, Bound, Abs, App}
+use Rattle.isa_terms.specs.Instance.{Instance, find_term, inst_ty, inst_tm}
 use Rattle.isa_terms.specs.declared.inst.TypeEntry.{TypeEntry}
 use Rattle.isa_terms.specs.declared.inst.TermEntry.{TermEntry}
-use Rattle.isa_terms.specs.declared.typing.IllTyped.{IllTyped}
 use Rattle.isa_conversion.specs.Typed.{Typed, TUnknown}
 use Rattle.isa_conversion.specs.Conversion.{Conv}
 use Rattle.isa_conversion.specs.Instances.{KeepsTypes}
@@ -27,18 +23,18 @@ use Rattle.isa_unify.specs.declared.progress.Answer.{Answer}
 use Rattle.isa_unify.specs.declared.progress.Answer.TheVariants.{Yes, No, Outside}
 use Rattle.isa_unify.specs.Descent as Ending
 use Rattle.isa_unify.specs.Descent.{Step, Done, Lighter, Solved, Ends}
-use Rattle.isa_unify.specs.TypeUnification.{Unifies, IsMostGeneral, unify_typs}
-use Rattle.isa_unify.specs.Unification.{types_in, parts_at, clash_step_at, clash_step, clashes, unify_step, unified, types_of, all_types, asked_terms, with_unknowns, becomes, start, unless_clash, answer_at, unify, retyped, retyped_variable, retyped_equation, retyped_state}
-use Rattle.isa_unify.specs.UnifyLaw.{HasUnknowns, IsGiven, AreGiven, MakesEqual, HaveNone, NoIsRight}
+use Rattle.isa_unify.specs.TypeUnification.{Unifies, unify_typs}
+use Rattle.isa_unify.specs.Unification.{types_in, parts_at, clash_step_at, clash_step, clashes, unify_step, unified, types_of, all_types, asked_terms, with_unknowns, becomes, start, answer_at, unify, retyped, retyped_variable, retyped_equation, retyped_state}
+use Rattle.isa_unify.specs.UnifyLaw.{HasUnknowns, IsGiven, AreGiven, MakesEqual, NoIsRight}
 use Rattle.isa_unify.proofs.TypesUnify.{types_most_general, types_no_unifier}
-use Rattle.isa_unify.proofs.Unknowns.{Key, key, key_eq, key_eq-true, stands, either_true, or_left, or_right}
+use Rattle.isa_unify.proofs.Unknowns.{Key, key, key_eq-true, stands, either_true, or_left, or_right}
 use Rattle.isa_unify.proofs.Measure.{occurs, AreParts}
 use Rattle.isa_unify.proofs.Assigned.{some_term_has}
 use Rattle.isa_unify.proofs.Adequacy.{unified_reached, clashes_reached}
-use Rattle.isa_unify.proofs.Meaning.{Holds, EachHolds, PartsHold, parts_hold}
+use Rattle.isa_unify.proofs.Meaning.{EachHolds, PartsHold, parts_hold}
 use Rattle.isa_unify.proofs.Ready.{AllNormal, AllTyped, all_normal_append, parts_normal, retyped_typed}
-use Rattle.isa_unify.proofs.Changing.{Sig, KnownKey, Sides, AllSided, Ready, IsTyped, TermsTyped}
-use Rattle.isa_unify.proofs.Outcomes.{Outcome, Retyped, retyped_outcome, retyped_holds, retyped_fit, retyped_values, retyped_sig}
+use Rattle.isa_unify.proofs.Changing.{Sig, KnownKey, AllSided, Ready, TermsTyped}
+use Rattle.isa_unify.proofs.Outcomes.{Outcome, retyped_holds, retyped_fit, retyped_values, retyped_sig}
 use Rattle.isa_unify.proofs.Leading.{Hopeless, Leads, retyped_ready, retyped_all_normal}
 use Rattle.isa_unify.proofs.Stepping.{StepView}
 use Rattle.isa_unify.proofs.Fronts.{step_view}

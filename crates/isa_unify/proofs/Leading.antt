@@ -1,30 +1,25 @@
 -- What a step from one state to another says of both.
-use Rattle.std.proofs.Common.{◌≡◌, ◌⊎◌, inl, inr, ℕ, zero, suc, ◌+◌, ◌<◌, List, [], ◌∷◌, ◌++◌, map, length, Bool, true, false, cond, not, ◌&&◌, ◌||◌, nat_eq, nat_lt, Option, Some, None, refl, sym, ap, ◌∙◌, subst, arith}
-use Rattle.isa_terms.specs.Types.{Ty}
-use Rattle.isa_terms.specs.Terms.{Tm, Const, Free, Unknown, Bound, Abs, App, bare}
-use Rattle.isa_terms.specs.Norm.{loose, norm}
-use Rattle.isa_terms.specs.Normal.{redex_at, redex, IsHead, IsNormal}
-use Rattle.isa_terms.specs.Instance.{inst_ty, inst_tm}
+use Rattle.std.proofs.Common.{◌≡◌, ◌⊎◌, inl, inr, ℕ, ◌+◌, List, [], ◌∷◌, map, true, false, not, ◌&&◌, ◌||◌, nat_eq, refl, sym, ap, ◌∙◌, subst}
+use Rattle.isa_terms.specs.Terms.{Tm, Const, Free, Unknown, Bound, Abs, App}
+use Rattle.isa_terms.specs.Norm.{loose}
+use Rattle.isa_terms.specs.Normal.{redex, IsHead, IsNormal}
+use Rattle.isa_terms.specs.Instance.{inst_ty}
 use Rattle.isa_terms.specs.declared.inst.TypeEntry.{TypeEntry}
 use Rattle.isa_terms.specs.declared.inst.TermEntry.{TermEntry}
-use Rattle.isa_conversion.specs.Typed.{Typed}
 use Rattle.isa_conversion.specs.Instances.{IsKept}
-use Rattle.isa_conversion.proofs.Conv.{right_typed, norm_conv}
 use Rattle.isa_conversion.proofs.Normal.{norm_normal}
 use Rattle.isa_conversion.proofs.Instances.{inst_typed}
 use Rattle.isa_conversion.proofs.Valuations.{Values, AreFit}
-use Rattle.isa_unify.specs.declared.equation.Variable.{Variable}
 use Rattle.isa_unify.specs.declared.equation.Equation.{Equation}
 use Rattle.isa_unify.specs.declared.progress.State.{State}
-use Rattle.isa_unify.specs.Unification.{types_in, filled, filled_equation, filled_entry, filled_state, retyped, retyped_variable, retyped_equation, retyped_entry, retyped_state, with_first}
-use Rattle.isa_unify.proofs.Unknowns.{Key, key, key_eq, stands, either_true, or_left, or_right}
+use Rattle.isa_unify.specs.Unification.{filled, filled_equation, filled_entry, retyped, retyped_equation, retyped_entry, retyped_state}
+use Rattle.isa_unify.proofs.Unknowns.{Key, stands, either_true, or_left, or_right}
 use Rattle.isa_unify.proofs.Measure.{occurs}
 use Rattle.isa_unify.proofs.Assigned.{some_term_has, assigns, stands-filled, occurs-filled, retyped_key, CameFrom, stands-retyped, occurs-retyped}
-use Rattle.isa_unify.proofs.Meaning.{Holds, EachHolds}
-use Rattle.isa_unify.proofs.Backward.{SameType}
+use Rattle.isa_unify.proofs.Meaning.{EachHolds}
 use Rattle.isa_unify.proofs.Ready.{AllNormal, AllTyped, retyped_typed}
-use Rattle.isa_unify.proofs.Changing.{Sig, KnownKey, IsTyped, TermsTyped, Ready, assigned_typed, filled_typed}
-use Rattle.isa_unify.proofs.Outcomes.{Outcome, Extension, Assignment, extended_holds, retyped_sig}
+use Rattle.isa_unify.proofs.Changing.{Sig, KnownKey, TermsTyped, Ready, assigned_typed, filled_typed}
+use Rattle.isa_unify.proofs.Outcomes.{Outcome, Assignment, extended_holds, retyped_sig}
 
 -- no instance solves the state
 abbrev pub Hopeless : State → Type 0

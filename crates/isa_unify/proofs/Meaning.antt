@@ -1,5 +1,5 @@
 -- What an instance that makes the sides of an equation equal says of the equation's parts.
-use Rattle.std.proofs.Common.{◌≡◌, ◌⊎◌, inl, inr, ℕ, zero, suc, ◌+◌, List, [], ◌∷◌, ◌++◌, map, length, Bool, true, false, cond, nat_eq, Option, Some, None, refl, sym, ap, ◌∙◌, subst, arith}
+use Rattle.std.proofs.Common.{◌≡◌, ℕ, List, [], ◌∷◌, ◌++◌, map, true, cond, nat_eq, Option, Some, None, sym, ap, ◌∙◌, subst, arith}
 use Rattle.std.specs.Prelude.{option_map}
 use Rattle.std.specs.Cmp.Lexicographic.{bytes_decides}
 use Rattle.std.proofs.lemmas.Bool.Decides.{nat_tests}
@@ -7,24 +7,22 @@ use Rattle.isa_terms.specs.Types.{Ty}
 use Rattle.isa_terms.specs.Terms.{Tm, Const, Free, Unknown, Bound, Abs, App, bare}
 use Rattle.isa_terms.specs.Equal.{name_eq}
 use Rattle.isa_terms.specs.Typing.{function_of}
-use Rattle.isa_terms.specs.Replace.{raise}
-use Rattle.isa_terms.specs.Norm.{norm}
-use Rattle.isa_terms.specs.Normal.{IsHead, IsNormal}
+use Rattle.isa_terms.specs.Normal.{IsNormal}
 use Rattle.isa_terms.specs.Instance.{inst_ty}
 use Rattle.isa_terms.specs.declared.inst.TypeEntry.{TypeEntry}
 use Rattle.isa_conversion.specs.Typed.{Typed}
-use Rattle.isa_conversion.specs.Conversion.{Conv, CSym, CTrans, CRefl}
+use Rattle.isa_conversion.specs.Conversion.{Conv, CSym}
 use Rattle.isa_conversion.proofs.Conv.{left_typed, right_typed}
 use Rattle.isa_conversion.proofs.Unique.{conv_norm, abs_typed, domain_same, range_same}
 use Rattle.isa_conversion.proofs.Opening.{open_conv, bodies_conv}
-use Rattle.isa_conversion.proofs.Heads.{IsSpine, IsRigid, rigid_spine, normal_spine, app_norm, heads_same, apps_conv, AppsConv}
+use Rattle.isa_conversion.proofs.Heads.{IsSpine, IsRigid, rigid_spine, normal_spine, app_norm, heads_same, apps_conv}
 use Rattle.isa_conversion.proofs.Valuations.{Values, val, AreFit, val_raise, val_rigid, head_val}
 use Rattle.isa_unify.specs.declared.equation.Variable.{Variable}
 use Rattle.isa_unify.specs.declared.equation.Equation.{Equation}
 use Rattle.isa_unify.specs.declared.progress.Parts.{Parts}
 use Rattle.isa_unify.specs.declared.progress.Parts.TheVariants.{Flexible, Clash, Into, Heads}
 use Rattle.isa_unify.specs.Spines.{head_of, args_of}
-use Rattle.isa_unify.specs.Unification.{paired, inner_parts, typed_parts, meet, opened, stripped, parts_at, types_in}
+use Rattle.isa_unify.specs.Unification.{paired, inner_parts, typed_parts, meet, opened, parts_at, types_in}
 
 -- an atom that a term of the pattern's kind may have as its head
 abbrev pub IsAtom : Tm → Type 0

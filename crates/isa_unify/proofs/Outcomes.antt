@@ -1,5 +1,5 @@
 -- The outcome of a state: an instance that solves it, through which each such instance goes.
-use Rattle.std.proofs.Common.{◌≡◌, ◌⊎◌, inl, inr, ℕ, zero, suc, ◌+◌, ◌<◌, List, [], ◌∷◌, ◌++◌, map, length, Bool, true, false, cond, ◌&&◌, ◌||◌, nat_eq, nat_lt, Option, Some, None, refl, sym, ap, ◌∙◌, subst, arith}
+use Rattle.std.proofs.Common.{◌≡◌, ◌⊎◌, inl, inr, ℕ, List, [], ◌∷◌, map, Bool, true, false, cond, refl, sym, ap, ◌∙◌, subst}
 use Rattle.isa_terms.specs.Types.{Ty}
 use Rattle.isa_terms.specs.Terms.{Tm, Const, Free, Unknown, Bound, Abs, App, bare}
 use Rattle.isa_terms.specs.Equal.{ty_eq}
@@ -9,23 +9,23 @@ use Rattle.isa_terms.specs.declared.inst.TypeEntry.{TypeEntry}
 use Rattle.isa_terms.specs.declared.inst.TermEntry.{TermEntry}
 use Rattle.isa_terms.proofs.Equal.{ty_decides}
 use Rattle.isa_conversion.specs.Typed.{Typed, TUnknown}
-use Rattle.isa_conversion.specs.Conversion.{Conv, CSym, CTrans, CRefl}
+use Rattle.isa_conversion.specs.Conversion.{Conv, CTrans, CRefl}
 use Rattle.isa_conversion.specs.Instances.{IsKept, types_after}
 use Rattle.isa_conversion.proofs.Unique.{conv_norm}
 use Rattle.isa_conversion.proofs.Composing.{after_ty}
 use Rattle.isa_conversion.proofs.Instances.{unknown_typed}
-use Rattle.isa_conversion.proofs.Valuations.{Values, val, AreFit, AgreeOn, agree_conv, values_of, values_fit, values_after, val_val, after_fit}
+use Rattle.isa_conversion.proofs.Valuations.{Values, val, AreFit, agree_conv, values_of, values_fit, values_after, val_val, after_fit}
 use Rattle.isa_unify.specs.declared.equation.Equation.{Equation}
 use Rattle.isa_unify.specs.declared.progress.State.{State}
 use Rattle.isa_unify.specs.TypeUnification.{entries_under}
-use Rattle.isa_unify.specs.Unification.{filled, filled_equation, filled_entry, filled_state, retyped, retyped_entry, retyped_equation, retyped_state}
+use Rattle.isa_unify.specs.Unification.{filled_equation, filled_entry, retyped_entry, retyped_equation, retyped_state}
 use Rattle.isa_unify.proofs.TypeInstances.{inst_nothing}
-use Rattle.isa_unify.proofs.Unknowns.{Key, key, key_eq, key_eq-true, key_eq_self, stands}
+use Rattle.isa_unify.proofs.Unknowns.{Key, key, key_eq-true, stands}
 use Rattle.isa_unify.proofs.Assigned.{some_term_has, assigns, stands-inst_tm}
 use Rattle.isa_unify.proofs.Measure.{occurs}
 use Rattle.isa_unify.proofs.Ready.{AllTyped}
 use Rattle.isa_unify.proofs.Meaning.{EachHolds}
-use Rattle.isa_unify.proofs.Changing.{Sig, KnownKey, value, AgreeKnown, agree_on, agree_each, agree_sided, AllSided, val_types, each_types, val_under, assigned_typed, filled_conv, before, before_fit, filled_back, filled_there, Untyped, retyped_back, retyped_there, IsTyped, TermsTyped, Ready}
+use Rattle.isa_unify.proofs.Changing.{Sig, KnownKey, value, AgreeKnown, agree_on, agree_each, agree_sided, AllSided, val_types, each_types, val_under, filled_conv, before, before_fit, filled_there, Untyped, retyped_back, retyped_there, TermsTyped, Ready}
 
 -- an instance is by, and then rest, on the known unknowns
 pub record Factor (sig : Sig) (next : ℕ) (r : List TypeEntry) (v : Values) (by_types : List TypeEntry) (by : Values) : Type 0 where

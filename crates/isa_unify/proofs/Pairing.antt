@@ -1,38 +1,37 @@
 -- The step that gives two unknowns one new unknown over the variables that both have.
-use Rattle.std.proofs.Common.{◌≡◌, ◌≢◌, ◌⊎◌, inl, inr, ℕ, zero, suc, ◌+◌, ◌-◌, ◌<◌, ◌≤◌, List, [], ◌∷◌, ◌++◌, map, filter, length, Bool, true, false, cond, not, ◌&&◌, ◌||◌, nat_eq, nat_lt, Option, Some, None, refl, sym, ap, ◌∙◌, subst, arith}
+use Rattle.std.proofs.Common.{◌≡◌, ◌⊎◌, inl, inr, ℕ, ◌+◌, List, [], ◌∷◌, map, filter, Bool, true, false, cond, ◌||◌, Some, refl, sym, ap, ◌∙◌, subst}
 use Rattle.std.specs.Prelude.{unwrap_or}
 use Rattle.isa_terms.specs.Types.{Ty}
-use Rattle.isa_terms.specs.Terms.{Tm, Const, Free, Unknown, Bound, Abs, App, bare}
+use Rattle.isa_terms.specs.Terms.{Tm, Unknown}
 use Rattle.isa_terms.specs.Norm.{loose, norm}
 use Rattle.isa_terms.specs.Instance.{find_term, inst_ty, inst_tm}
 use Rattle.isa_terms.specs.declared.inst.TypeEntry.{TypeEntry}
 use Rattle.isa_terms.specs.declared.inst.TermEntry.{TermEntry}
 use Rattle.isa_conversion.specs.Typed.{Typed}
-use Rattle.isa_conversion.specs.Conversion.{Conv, CSym, CTrans, CRefl}
-use Rattle.isa_conversion.specs.Instances.{IsKept}
-use Rattle.isa_conversion.proofs.Conv.{left_typed, right_typed, norm_conv}
+use Rattle.isa_conversion.specs.Conversion.{Conv, CSym, CTrans}
+use Rattle.isa_conversion.proofs.Conv.{left_typed}
 use Rattle.isa_conversion.proofs.Unique.{conv_norm}
 use Rattle.isa_conversion.proofs.Heads.{one_type}
 use Rattle.isa_conversion.proofs.Loose.{loose_bare}
 use Rattle.isa_conversion.proofs.Abstracting as abstracting
 use Rattle.isa_conversion.proofs.Abstracting.{AreDistinct, Among, AreKnown, arrow, tower, inst_typs, inst_arrow}
-use Rattle.isa_conversion.proofs.Pruning.{IsWithin, applied_within, closed_only, Factors}
+use Rattle.isa_conversion.proofs.Pruning.{IsWithin, applied_within, closed_only}
 use Rattle.isa_conversion.proofs.Valuations.{Values, val, AreFit, val_typed, val_on_bounds}
 use Rattle.isa_unify.specs.declared.equation.Variable.{Variable}
 use Rattle.isa_unify.specs.declared.equation.Equation.{Equation}
 use Rattle.isa_unify.specs.declared.progress.State.{State}
 use Rattle.isa_unify.specs.Spines.{has_number}
-use Rattle.isa_unify.specs.Unification.{types_in, abstracted, over, range_behind, becomes, filled_state, with_first, after_new}
-use Rattle.isa_unify.proofs.Unknowns.{Key, key, key_eq, key_eq-true, key_eq_self, stands, either_true, or_left, or_right}
+use Rattle.isa_unify.specs.Unification.{types_in, abstracted, becomes, filled_state, with_first, after_new}
+use Rattle.isa_unify.proofs.Unknowns.{Key, key_eq, key_eq-true, key_eq_self, stands, either_true, or_right}
 use Rattle.isa_unify.proofs.Measure.{occurs}
-use Rattle.isa_unify.proofs.Assigned.{some_term_has, stands-abstracted}
-use Rattle.isa_unify.proofs.Meaning.{Holds, EachHolds}
-use Rattle.isa_unify.proofs.Changing.{Sig, KnownKey, value, before, filled_back, Ready}
+use Rattle.isa_unify.proofs.Assigned.{stands-abstracted}
+use Rattle.isa_unify.proofs.Meaning.{Holds}
+use Rattle.isa_unify.proofs.Changing.{Sig, KnownKey, value, filled_back, Ready}
 use Rattle.isa_unify.proofs.Outcomes.{Outcome, Extension, Assignment, extended_holds, assigned_outcome}
 use Rattle.isa_unify.proofs.Deciding.{unknown, among_has, has_among, filter_front, filter_has, filter_distinct}
 use Rattle.isa_unify.proofs.AbstractedTerms.{names, typs, bounds_known, unknown_type, Abstracted, abstracts, abstracted_applied, hit, find_hit, find_missed, hit_kept}
 use Rattle.isa_unify.proofs.Solving.{conv_closed, known_inst, hit_agree, front_holds, inst_on_bounds_nothing}
-use Rattle.isa_unify.proofs.Renewing.{with_sig, value_below, more_known, new_known, Place, New, Applied, applied_typed, applied_only, kept_known, Fresh, Body, Renewed, renewed_made, renewed_typed, value_typed, through, Plus, plus_fit, tower_value, renewed_value, stands_from}
+use Rattle.isa_unify.proofs.Renewing.{with_sig, value_below, more_known, new_known, Place, applied_typed, applied_only, kept_known, Fresh, Body, Renewed, renewed_made, renewed_typed, value_typed, through, Plus, plus_fit, tower_value, renewed_value, stands_from}
 
 -- the sides are two unknowns on variables
 pub record Two (sig : Sig) (next : ℕ) (e : Equation) (u : Key) (xs : List ℕ) (w : Key) (ys : List ℕ) : Type 0 where

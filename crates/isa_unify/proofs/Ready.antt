@@ -1,31 +1,28 @@
 -- Equations that are well typed and normal, and that their parts are so.
-use Rattle.std.proofs.Common.{◌≡◌, ◌⊎◌, inl, inr, ℕ, zero, suc, ◌+◌, ◌<◌, List, [], ◌∷◌, ◌++◌, map, length, Bool, true, false, cond, ◌||◌, nat_eq, Option, Some, None, refl, sym, ap, ◌∙◌, subst, arith}
+use Rattle.std.proofs.Common.{◌≡◌, ℕ, List, [], ◌∷◌, ◌++◌, map, Bool, true, false, cond, nat_eq, Option, Some, None, refl, sym, ap, ◌∙◌, subst, arith}
 use Rattle.std.specs.Prelude.{option_map}
-use Rattle.std.specs.Cmp.Lexicographic.{bytes_decides}
 use Rattle.std.proofs.lemmas.Bool.Decides.{nat_tests}
 use Rattle.isa_terms.specs.Types.{Ty}
-use Rattle.isa_terms.specs.Terms.{Tm, Const, Free, Unknown, Bound, Abs, App, bare}
+use Rattle.isa_terms.specs.Terms.{Tm, Const, Free, Unknown, Bound, Abs, App}
 use Rattle.isa_terms.specs.Equal.{name_eq}
 use Rattle.isa_terms.specs.Typing.{function_of}
-use Rattle.isa_terms.specs.Replace.{raise}
 use Rattle.isa_terms.specs.Normal.{IsHead, IsNormal}
-use Rattle.isa_terms.specs.Instance.{inst_ty, inst_tm}
+use Rattle.isa_terms.specs.Instance.{inst_ty}
 use Rattle.isa_terms.specs.declared.inst.TypeEntry.{TypeEntry}
-use Rattle.isa_conversion.specs.Typed.{Typed, TConst, TFree, TUnknown, TBound, TAbs, TApp}
+use Rattle.isa_conversion.specs.Typed.{Typed, TConst, TFree, TBound, TApp}
 use Rattle.isa_conversion.proofs.Unique.{abs_typed, app_typed, domain_same, range_same}
 use Rattle.isa_conversion.proofs.Opening.{next_typed}
 use Rattle.isa_conversion.proofs.Normal.{raise_normal, raise_head}
 use Rattle.isa_conversion.proofs.Instances.{inst_typed}
-use Rattle.isa_conversion.proofs.Heads.{IsSpine, IsRigid, normal_spine, one_type}
+use Rattle.isa_conversion.proofs.Heads.{IsSpine, normal_spine, one_type}
 use Rattle.isa_unify.specs.declared.equation.Variable.{Variable}
 use Rattle.isa_unify.specs.declared.equation.Equation.{Equation}
 use Rattle.isa_unify.specs.declared.progress.Parts.{Parts}
 use Rattle.isa_unify.specs.declared.progress.Parts.TheVariants.{Flexible, Clash, Into, Heads}
 use Rattle.isa_unify.specs.Spines.{head_of, args_of}
-use Rattle.isa_unify.specs.Unification.{paired, inner_parts, typed_parts, meet, opened, stripped, parts_at, types_in, retyped, retyped_variable, retyped_equation}
+use Rattle.isa_unify.specs.Unification.{paired, inner_parts, typed_parts, meet, opened, parts_at, types_in, retyped, retyped_variable, retyped_equation}
 use Rattle.isa_unify.proofs.TypeInstances.{inst_nothing}
-use Rattle.isa_unify.proofs.Unknowns.{Key}
-use Rattle.isa_unify.proofs.Measure.{occurs, AreParts, meet_paired}
+use Rattle.isa_unify.proofs.Measure.{AreParts, meet_paired}
 use Rattle.isa_unify.proofs.Meaning.{IsAtom, head_atom}
 use Rattle.isa_unify.proofs.Backward.{SameType}
 

@@ -1,9 +1,9 @@
 -- The steps that give an unknown a new unknown over fewer variables.
-use Rattle.std.proofs.Common.{◌≡◌, ◌≢◌, ◌⊎◌, inl, inr, ℕ, zero, suc, ◌+◌, ◌-◌, ◌<◌, ◌≤◌, List, [], ◌∷◌, ◌++◌, map, filter, length, Bool, true, false, cond, not, ◌&&◌, ◌||◌, nat_eq, nat_lt, Option, Some, None, refl, sym, ap, ◌∙◌, subst, arith}
+use Rattle.std.proofs.Common.{◌≡◌, ◌⊎◌, inl, inr, ℕ, suc, ◌+◌, ◌<◌, ◌≤◌, List, [], ◌∷◌, map, length, Bool, true, false, cond, ◌&&◌, ◌||◌, nat_eq, refl, sym, ap, ◌∙◌, subst, arith}
 use Rattle.std.specs.Cmp.Lexicographic.{bytes_decides}
 use Rattle.std.proofs.lemmas.Bool.Decides.{nat_tests}
 use Rattle.isa_terms.specs.Types.{Ty}
-use Rattle.isa_terms.specs.Terms.{Tm, Const, Free, Unknown, Bound, Abs, App, bare}
+use Rattle.isa_terms.specs.Terms.{Tm, Unknown, Bound, App}
 use Rattle.isa_terms.specs.Equal.{name_eq, ty_eq}
 use Rattle.isa_terms.specs.Norm.{loose, norm}
 use Rattle.isa_terms.specs.Instance.{inst_ty, inst_tm}
@@ -11,14 +11,9 @@ use Rattle.isa_terms.specs.declared.inst.TypeEntry.{TypeEntry}
 use Rattle.isa_terms.specs.declared.inst.TermEntry.{TermEntry}
 use Rattle.isa_terms.proofs.Equal.{ty_decides}
 use Rattle.isa_conversion.specs.Typed.{Typed, TUnknown}
-use Rattle.isa_conversion.specs.Conversion.{Conv, CSym, CTrans, CRefl}
-use Rattle.isa_conversion.specs.Instances.{IsKept}
-use Rattle.isa_conversion.proofs.Conv.{left_typed, right_typed, norm_conv}
-use Rattle.isa_conversion.proofs.Typed.{type_of_typed}
-use Rattle.isa_conversion.proofs.Unique.{conv_norm}
+use Rattle.isa_conversion.specs.Conversion.{Conv, CSym, CTrans}
+use Rattle.isa_conversion.proofs.Conv.{left_typed}
 use Rattle.isa_conversion.proofs.Heads.{one_type}
-use Rattle.isa_conversion.proofs.Loose.{loose_bare}
-use Rattle.isa_conversion.proofs.Erased.{up}
 use Rattle.isa_conversion.proofs.Renames.{rename}
 use Rattle.isa_conversion.proofs.Abstracting as abstracting
 use Rattle.isa_conversion.proofs.Abstracting.{AreDistinct, Among, AreKnown, arrow, tower, inst_typs, inst_arrow, on_bounds_typed}
@@ -28,19 +23,16 @@ use Rattle.isa_conversion.proofs.Valuations.{Values, val, AreFit, val_typed, val
 use Rattle.isa_unify.specs.declared.equation.Variable.{Variable}
 use Rattle.isa_unify.specs.declared.equation.Equation.{Equation}
 use Rattle.isa_unify.specs.declared.progress.State.{State}
-use Rattle.isa_unify.specs.Spines.{has_number}
-use Rattle.isa_unify.specs.Unification.{types_in, abstracted, arrows, range_behind, over, becomes, filled, filled_equation, filled_entry, filled_state, with_first, after_new, agreeing}
-use Rattle.isa_unify.proofs.TypeInstances.{inst_nothing}
-use Rattle.isa_unify.proofs.Unknowns.{Key, key, key_eq, key_eq-true, key_eq_self, stands, either_true, both_true, or_left, or_right}
+use Rattle.isa_unify.specs.Unification.{types_in, abstracted, arrows, range_behind, over, filled_state, with_first, after_new, agreeing}
+use Rattle.isa_unify.proofs.Unknowns.{Key, key, key_eq, key_eq-true, stands, both_true, or_right}
 use Rattle.isa_unify.proofs.Measure.{occurs}
-use Rattle.isa_unify.proofs.Assigned.{some_term_has, stands-abstracted}
-use Rattle.isa_unify.proofs.Meaning.{Holds, EachHolds, types_under}
-use Rattle.isa_unify.proofs.Changing.{Sig, KnownKey, value, before, filled_back, Ready}
-use Rattle.isa_unify.proofs.Outcomes.{Factor, Outcome, Extension, Assignment, extended_holds, assigned_outcome}
-use Rattle.isa_unify.proofs.Deciding.{unknown, among_has, has_among, filter_front, filter_has, filter_distinct}
-use Rattle.isa_unify.proofs.Verdicts.{PrunePlace}
-use Rattle.isa_unify.proofs.AbstractedTerms.{names, typs, on_bounds_same, arrows_same, bounds_known, unknown_type, range_of_arrow, Abstracted, abstracts, abstracted_applied, hit, find_hit, find_missed, find_nothing, hit_kept, arrows_pair}
-use Rattle.isa_unify.proofs.Solving.{conv_closed, known_inst, hit_extension, front_holds, inst_on_bounds_nothing, Front}
+use Rattle.isa_unify.proofs.Assigned.{stands-abstracted}
+use Rattle.isa_unify.proofs.Meaning.{Holds, EachHolds}
+use Rattle.isa_unify.proofs.Changing.{Sig, KnownKey, value, filled_back, Ready}
+use Rattle.isa_unify.proofs.Outcomes.{Outcome, Assignment, extended_holds, assigned_outcome}
+use Rattle.isa_unify.proofs.Deciding.{unknown}
+use Rattle.isa_unify.proofs.AbstractedTerms.{names, typs, on_bounds_same, arrows_same, bounds_known, unknown_type, range_of_arrow, Abstracted, abstracts, abstracted_applied, hit, find_hit, hit_kept, arrows_pair}
+use Rattle.isa_unify.proofs.Solving.{conv_closed, known_inst, hit_extension, front_holds, inst_on_bounds_nothing}
 
 -- ---- a new unknown
 abbrev pub with_sig : List ℕ → ℕ → Ty → Sig → Sig

@@ -1,5 +1,5 @@
 -- The answers of unification are right.
-use Rattle.std.proofs.Common.{◌≡◌, ℕ, List, Result, Ok, Err}
+use Rattle.std.proofs.Common.{ℕ, List, Result, Ok, Err}
 use Rattle.std.specs.declared.alloc.AllocError.{AllocError}
 use Rattle.isa_terms.specs.Types.{Ty}
 use Rattle.isa_unify.specs.declared.equation.Equation.{Equation}

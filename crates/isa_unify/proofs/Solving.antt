@@ -1,45 +1,36 @@
 -- The steps that solve an unknown: the outcome after them is that before.
-use Rattle.std.proofs.Common.{◌≡◌, ◌≢◌, ◌⊎◌, inl, inr, ℕ, zero, suc, ◌+◌, ◌-◌, ◌<◌, ◌≤◌, List, [], ◌∷◌, ◌++◌, map, filter, length, Bool, true, false, cond, not, ◌&&◌, ◌||◌, nat_eq, nat_lt, Option, Some, None, refl, sym, ap, ◌∙◌, subst, arith}
-use Rattle.std.specs.List.{slice_get}
-use Rattle.std.specs.Cmp.Lexicographic.{bytes_decides}
-use Rattle.std.proofs.lemmas.Bool.Decides.{nat_tests}
+use Rattle.std.proofs.Common.{◌≡◌, ℕ, List, [], ◌∷◌, map, Bool, true, false, ◌||◌, refl, sym, ap, ◌∙◌, subst}
 use Rattle.isa_terms.specs.Types.{Ty}
-use Rattle.isa_terms.specs.Terms.{Tm, Const, Free, Unknown, Bound, Abs, App, bare}
-use Rattle.isa_terms.specs.Equal.{name_eq, ty_eq}
-use Rattle.isa_terms.specs.Norm.{loose, norm}
+use Rattle.isa_terms.specs.Terms.{Tm, Const, Free, Unknown, Bound, Abs, App}
 use Rattle.isa_terms.specs.Normal.{IsNormal}
 use Rattle.isa_terms.specs.Instance.{inst_ty, inst_tm}
 use Rattle.isa_terms.specs.declared.inst.TypeEntry.{TypeEntry}
 use Rattle.isa_terms.specs.declared.inst.TermEntry.{TermEntry}
-use Rattle.isa_terms.proofs.Equal.{ty_decides}
-use Rattle.isa_conversion.specs.Typed.{Typed, TConst, TFree, TUnknown, TBound, TAbs, TApp}
-use Rattle.isa_conversion.specs.Conversion.{Conv, CSym, CTrans, CRefl, CApp}
-use Rattle.isa_conversion.specs.Instances.{IsKept}
-use Rattle.isa_conversion.proofs.Conv.{left_typed, right_typed, norm_conv}
+use Rattle.isa_conversion.specs.Typed.{Typed}
+use Rattle.isa_conversion.specs.Conversion.{Conv, CSym, CTrans, CRefl}
+use Rattle.isa_conversion.proofs.Conv.{right_typed}
 use Rattle.isa_conversion.proofs.Names.{norm_same_conv}
 use Rattle.isa_conversion.proofs.Unique.{conv_norm}
-use Rattle.isa_conversion.proofs.Instances.{closed_anywhere, get_inst}
+use Rattle.isa_conversion.proofs.Instances.{get_inst}
 use Rattle.isa_conversion.proofs.Heads.{one_type}
 use Rattle.isa_conversion.proofs.Loose.{or_false}
 use Rattle.isa_unify.proofs.TypeInstances.{inst_nothing}
 use Rattle.isa_conversion.proofs.Abstracting as abstracting
 use Rattle.isa_conversion.proofs.Abstracting.{AreDistinct, Among, AreKnown, arrow, tower, inst_typs, inst_arrow, on_bounds_typed, on_bounds_conv}
-use Rattle.isa_conversion.proofs.Pruning.{IsWithin, known_at, known_all, among_or_not, on_bounds_misses, closed_only, Factors, factors}
+use Rattle.isa_conversion.proofs.Pruning.{IsWithin, closed_only}
 use Rattle.isa_conversion.proofs.Valuations.{Values, val, AreFit, val_typed, val_conv, val_tower, val_on_bounds}
 use Rattle.isa_unify.specs.declared.equation.Variable.{Variable}
 use Rattle.isa_unify.specs.declared.equation.Equation.{Equation}
 use Rattle.isa_unify.specs.declared.progress.State.{State}
-use Rattle.isa_unify.specs.Unification.{types_in, abstracted, arrows, range_behind, over, becomes, filled, filled_equation, filled_entry, filled_state, with_first}
-use Rattle.isa_unify.proofs.Unknowns.{Key, key, key_eq, key_eq-true, key_eq_self, stands, either_true, both_true, or_left, or_right}
+use Rattle.isa_unify.specs.Unification.{types_in, abstracted, filled_state, with_first}
+use Rattle.isa_unify.proofs.Unknowns.{Key, key, key_eq, key_eq-true, key_eq_self, stands, or_left, or_right}
 use Rattle.isa_unify.proofs.Measure.{occurs}
-use Rattle.isa_unify.proofs.Assigned.{some_term_has, stands-abstracted}
-use Rattle.isa_unify.proofs.Meaning.{Holds, EachHolds, types_under}
-use Rattle.isa_unify.proofs.Backward.{SameType}
-use Rattle.isa_unify.proofs.Ready.{AllNormal, AllTyped}
-use Rattle.isa_unify.proofs.Changing.{Sig, KnownKey, value, val_under, before, assigned_typed, filled_back, Ready}
-use Rattle.isa_unify.proofs.Outcomes.{Factor, Outcome, Extension, Assignment, extended_holds, assigned_outcome}
+use Rattle.isa_unify.proofs.Assigned.{stands-abstracted}
+use Rattle.isa_unify.proofs.Meaning.{Holds}
+use Rattle.isa_unify.proofs.Changing.{Sig, KnownKey, value, val_under, before, filled_back, Ready}
+use Rattle.isa_unify.proofs.Outcomes.{Outcome, Extension, Assignment, extended_holds, assigned_outcome}
 use Rattle.isa_unify.proofs.Deciding.{unknown}
-use Rattle.isa_unify.proofs.AbstractedTerms.{names, typs, on_bounds_same, arrows_same, bounds_known, unknown_type, range_of_arrow, Abstracted, abstracts, abstracted_applied, hit, find_hit, find_missed, find_nothing, hit_kept}
+use Rattle.isa_unify.proofs.AbstractedTerms.{names, typs, bounds_known, unknown_type, Abstracted, abstracts, abstracted_applied, hit, find_hit, find_missed, find_nothing, hit_kept}
 
 -- ---- closed terms
 pub conv_closed : {G : List Ty} {T U : Ty} {t u : Tm} → Typed [] t T → Typed [] u T → Conv G U t u → Conv [] T t u

@@ -1,19 +1,19 @@
 -- What the first place that decides says of an instance that makes `?F xs` equal to the term.
-use Rattle.std.proofs.Common.{◌≡◌, ◌≢◌, ◌⊎◌, inl, inr, ℕ, zero, suc, ◌+◌, ◌-◌, ◌<◌, ◌≤◌, List, [], ◌∷◌, ◌++◌, map, filter, length, Bool, true, false, cond, not, ◌&&◌, ◌||◌, nat_eq, nat_lt, Option, Some, None, refl, sym, ap, ◌∙◌, subst, arith}
+use Rattle.std.proofs.Common.{◌≡◌, ◌⊎◌, inl, inr, ℕ, ◌+◌, ◌-◌, ◌<◌, ◌≤◌, List, [], ◌∷◌, ◌++◌, filter, length, Bool, true, false, cond, ◌&&◌, ◌||◌, nat_eq, nat_lt, Option, Some, None, refl, sym, ap, ◌∙◌, subst, arith}
 use Rattle.std.specs.Cmp.Lexicographic.{bytes_decides}
 use Rattle.std.proofs.lemmas.Bool.Decides.{nat_tests}
 use Rattle.isa_terms.specs.Types.{Ty}
-use Rattle.isa_terms.specs.Terms.{Tm, Const, Free, Unknown, Bound, Abs, App, bare}
+use Rattle.isa_terms.specs.Terms.{Tm, Const, Free, Unknown, Bound, Abs, App}
 use Rattle.isa_terms.specs.Equal.{name_eq}
-use Rattle.isa_terms.specs.Norm.{loose, eta, norm}
-use Rattle.isa_terms.specs.Normal.{IsHead, IsNormal}
+use Rattle.isa_terms.specs.Norm.{loose, norm}
+use Rattle.isa_terms.specs.Normal.{IsNormal}
 use Rattle.isa_terms.specs.Instance.{inst_ty}
 use Rattle.isa_terms.specs.declared.inst.TypeEntry.{TypeEntry}
-use Rattle.isa_conversion.specs.Typed.{Typed, TConst, TFree, TUnknown, TBound, TAbs, TApp}
+use Rattle.isa_conversion.specs.Typed.{Typed}
 use Rattle.isa_conversion.proofs.Unique.{abs_typed, app_typed}
 use Rattle.isa_conversion.proofs.Heads.{IsSpine, IsRigid, rigid_spine, normal_spine, app_norm}
 use Rattle.isa_conversion.proofs.Loose.{or_false, neither, norm_misses, beyond_misses}
-use Rattle.isa_conversion.proofs.Abstracting.{on_bounds, AreDistinct, Among, AreKnown, arrow}
+use Rattle.isa_conversion.proofs.Abstracting.{on_bounds, AreDistinct, Among}
 use Rattle.isa_conversion.proofs.Pruning.{closed_missing, IsWithin, among_or_not, on_bounds_misses}
 use Rattle.isa_conversion.proofs.Size.{size, spine_size, size_abs, size_arg, size_fun, spine_size_le, size_closed, size_applied}
 use Rattle.isa_conversion.proofs.Valuations.{Values, val, AreFit, val_typed, val_rigid, val_on_bounds}
@@ -25,7 +25,7 @@ use Rattle.isa_unify.specs.Unification.{types_in, allowed, at_pattern, at_unknow
 use Rattle.isa_unify.proofs.Unknowns.{Key, key, key_eq_self, stands, both_true, or_left, or_right}
 use Rattle.isa_unify.proofs.Meaning.{types_under}
 use Rattle.isa_unify.proofs.Changing.{Sig}
-use Rattle.isa_unify.proofs.Deciding.{among_has, has_among, filter_front, filter_has, filter_distinct, filter_all, applied_is, AreBounds, distinct_bounds_are, typ_in, no_names, bounds_typed, loose_eta, stiff, flexible_head, unknown, flexible_is}
+use Rattle.isa_unify.proofs.Deciding.{among_has, has_among, filter_front, filter_has, filter_distinct, filter_all, applied_is, distinct_bounds_are, typ_in, no_names, bounds_typed, loose_eta, stiff, flexible_head, unknown, flexible_is}
 
 -- what a place with an unknown at its head may be
 pub data PlaceCase (f : List ℕ) (k : ℕ) (xs : List ℕ) (depth : ℕ) (bs : List Variable) (p : Tm) (w : Verdict) : Type 0 where

@@ -1,30 +1,28 @@
 -- The answer Yes of unification is right.
-use Rattle.std.proofs.Common.{◌≡◌, ◌⊎◌, inl, inr, ℕ, List, [], ◌∷◌, ◌++◌, map, Bool, true, false, cond, Option, Some, None, is_some, unwrap_or, refl, sym, ap, ◌∙◌, subst}
+use Rattle.std.proofs.Common.{◌≡◌, ℕ, List, [], ◌∷◌, map, Bool, true, false, cond, Option, Some, None, unwrap_or, refl, sym, ap, ◌∙◌, subst}
 use Rattle.isa_terms.specs.Types.{Ty}
 use Rattle.isa_terms.specs.Terms.{Tm, Const, Free, Unknown, Bound, Abs, App, bare}
 use Rattle.isa_terms.specs.Norm.{norm}
-use Rattle.isa_terms.specs.Instance.{Instance, instance_of, find_term, inst_ty, inst_tm}
+use Rattle.isa_terms.specs.Instance.{Instance, find_term, inst_ty, inst_tm}
 use Rattle.isa_terms.specs.declared.inst.TypeEntry.{TypeEntry}
 use Rattle.isa_terms.specs.declared.inst.TermEntry.{TermEntry}
-use Rattle.isa_conversion.specs.Typed.{Typed}
 use Rattle.isa_conversion.specs.Conversion.{Conv, CSym}
-use Rattle.isa_conversion.specs.Instances.{IsKept, KeepsTypes, IsFollowed}
+use Rattle.isa_conversion.specs.Instances.{IsFollowed}
 use Rattle.isa_conversion.proofs.Conv.{right_typed}
 use Rattle.isa_conversion.proofs.Unique.{conv_norm}
 use Rattle.isa_conversion.proofs.Composing.{Covers}
 use Rattle.isa_conversion.proofs.Valuations.{Values, val, AreFit, val_conv, val_norm, values_of, values_fit}
 use Rattle.isa_unify.specs.declared.equation.Equation.{Equation}
-use Rattle.isa_unify.specs.declared.progress.Answer.{Answer}
-use Rattle.isa_unify.specs.declared.progress.Answer.TheVariants.{Yes, No, Outside}
+use Rattle.isa_unify.specs.declared.progress.Answer.TheVariants.{Yes, No}
 use Rattle.isa_unify.specs.TypeUnification.{entries_under, unify_typs}
 use Rattle.isa_unify.specs.Unification.{asked_types, asked_terms, all_types, clashes, unified, start, answer_at, unify, retyped_equation, retyped_state}
-use Rattle.isa_unify.specs.UnifyLaw.{HasUnknowns, AreGiven, MakesEqual, GoesThrough, IsThrough, IsMostGeneralFor, YesIsRight}
+use Rattle.isa_unify.specs.UnifyLaw.{HasUnknowns, AreGiven, MakesEqual, GoesThrough, IsMostGeneralFor, YesIsRight}
 use Rattle.isa_unify.proofs.TypesUnify.{types_most_general}
 use Rattle.isa_unify.proofs.Unknowns.{key}
 use Rattle.isa_unify.proofs.Adequacy.{unified_reached}
 use Rattle.isa_unify.proofs.Meaning.{EachHolds}
 use Rattle.isa_unify.proofs.Changing.{Sig, AllSided, TermsTyped}
-use Rattle.isa_unify.proofs.Outcomes.{Factor, Outcome, Retyped, TermsUnder, retyped_outcome, retyped_sig}
+use Rattle.isa_unify.proofs.Outcomes.{Factor, Outcome, TermsUnder, retyped_outcome, retyped_sig}
 use Rattle.isa_unify.proofs.General.{AnswerView, answered, given_sided, given_known, solution_holds, start_ready}
 use Rattle.isa_unify.proofs.Asked.{HasTypes, AreThemselves, TermsThemselves, TypesIn, TypesInEach, CoversEach, asks_each, asks_terms, asked_themselves, under_ty, found_under, under_kept, asked_conv, all_entries_for, all_values, all_covered, found_in, entries_value, values_kept}
 

@@ -1,6 +1,5 @@
 -- Worked examples: the definition computes its answers. New unknowns are numbered from 1.
-use Rattle.std.specs.Prelude.{◌≡◌, ℕ, List, [], ◌∷◌, ◌++◌, map, codes, refl}
-use Rattle.isa_terms.specs.Types.{Ty}
+use Rattle.std.specs.Prelude.{◌≡◌, ℕ, List, [], ◌∷◌, ◌++◌, codes, refl}
 use Rattle.isa_terms.specs.Terms.{Tm, Const, Bound, Abs, App}
 use Rattle.isa_unify.specs.declared.progress.Answer.{Answer}
 use Rattle.isa_unify.specs.declared.progress.Answer.TheVariants.{Yes, No, Outside}

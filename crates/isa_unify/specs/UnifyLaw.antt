@@ -1,7 +1,7 @@
 -- What unification finds: an instance that makes the sides of the equations equal, and that is most general.
 use Rattle.std.specs.Prelude.{◌≡◌, ℕ, ◌<◌, List, [], ◌∷◌, Ok}
 use Rattle.isa_terms.specs.Types.{Ty}
-use Rattle.isa_terms.specs.Terms.{Tm, Const, Free, Unknown, Bound, Abs, App, bare}
+use Rattle.isa_terms.specs.Terms.{Tm, Unknown, Abs, App, bare}
 use Rattle.isa_terms.specs.Typing.{type_at}
 use Rattle.isa_terms.specs.Normal.{IsNormal}
 use Rattle.isa_terms.specs.Instance.{Instance, instance_of}
@@ -9,8 +9,7 @@ use Rattle.isa_terms.specs.declared.inst.TypeEntry.{TypeEntry}
 use Rattle.isa_terms.specs.declared.inst.TermEntry.{TermEntry}
 use Rattle.isa_conversion.specs.Instances.{KeepsTypes, IsFollowed}
 use Rattle.isa_unify.specs.declared.equation.Equation.{Equation}
-use Rattle.isa_unify.specs.declared.progress.Answer.{Answer}
-use Rattle.isa_unify.specs.declared.progress.Answer.TheVariants.{Yes, No, Outside}
+use Rattle.isa_unify.specs.declared.progress.Answer.TheVariants.{Yes, No}
 use Rattle.isa_unify.specs.Unification.{types_in, unify}
 
 -- each unknown of the term stands at the one type of its name and number, which is below n
