@@ -1,78 +1,104 @@
--- States that follow from one another in turn.
-use Rattle.std.proofs.Common.{◌≡◌, inl, inr, List, [], ◌∷◌, map, Bool, true, ◌&&◌, refl, sym, ap, ◌∙◌, subst}
+-- What follows from what follows.
+use Rattle.std.proofs.Common.{◌≡◌, ◌⊎◌, inl, inr, List, [], ◌∷◌, ◌++◌, map, Bool, true, false, ◌&&◌, refl, sym, ap, ◌∙◌, subst}
 use Rattle.isa_terms.specs.Types.{Ty}
 use Rattle.isa_terms.specs.Terms.{Tm, bare}
-use Rattle.isa_terms.specs.Typing.{HasType}
-use Rattle.isa_terms.specs.Instance.{Instance, instance_of, inst_ty}
+use Rattle.isa_terms.specs.Equal.{ty_eq}
+use Rattle.isa_terms.specs.Typing.{HasType, type_at}
+use Rattle.isa_terms.specs.Instance.{Instance, instance_of, inst_ty, inst_tm}
 use Rattle.isa_terms.specs.declared.inst.TypeEntry.{TypeEntry}
 use Rattle.isa_terms.specs.declared.inst.TermEntry.{TermEntry}
+use Rattle.isa_terms.proofs.Bare.{type_at_bare}
 use Rattle.isa_terms.proofs.Equal.{ty_decides}
-use Rattle.isa_conversion.specs.Instances.{IsKept, KeepsTypes, followed_by}
-use Rattle.isa_conversion.specs.Instances as conversion
-use Rattle.isa_conversion.proofs.Typed.{typed_of_type}
-use Rattle.isa_conversion.proofs.Instances.{inst_bare_same, inst_norm_typed}
+use Rattle.isa_conversion.specs.Instances.{IsKept, KeepsTypes, followed_by, Each}
+use Rattle.isa_conversion.proofs.Typed.{Typed, type_of_typed, typed_of_type}
+use Rattle.isa_conversion.proofs.Instances.{inst_typed, inst_bare_same, inst_norm_typed}
+use Rattle.isa_conversion.proofs.Normal.{norm_normal}
+use Rattle.isa_terms.specs.Normal.{IsNormal}
 use Rattle.isa_conversion.proofs.Laws.{instances_compose_law}
 use Rattle.isa_kernel.specs.Logic.{prop, IsProposition}
-use Rattle.isa_kernel.specs.Derivation.{Member, Within, Derives}
-use Rattle.isa_kernel.specs.Inferences.{has_type, typed_as, keeps}
-use Rattle.isa_kernel.proofs.Sound.{has_type_is, and_true}
+use Rattle.isa_kernel.specs.Derivation.{Member, Derives}
+use Rattle.isa_kernel.specs.Inferences.{keeps, has_type, typed_as}
 use Rattle.isa_kernel.proofs.Members.{bares}
+use Rattle.isa_kernel.proofs.Sound.{has_type_is}
 use Rattle.isa_goal.specs.Goals.{Goals, implies, IsStanding}
-use Rattle.isa_goal.specs.Follows.{Follows}
-use Rattle.isa_goal.proofs.Deriving.{implies_bare, derived_propositions, propositions_member, derive_more}
-use Rattle.isa_goal.proofs.Refining.{standing_propositions}
-use Rattle.isa_goal.proofs.Following.{From, each_of, of_each, from_instance, chain, map_member}
+use Rattle.isa_goal.specs.Names.{naming, renamed, canon}
+use Rattle.isa_goal.specs.Follows.{Follows, IsNormalState}
+use Rattle.isa_goal.specs.Follows as follows
+use Rattle.isa_goal.proofs.Deriving.{ArePropositions, implies_bare, derived_propositions, propositions_member}
+use Rattle.isa_goal.proofs.Following.{From, each_of, of_each, chain, map_member, from_instance}
+use Rattle.isa_goal.proofs.Matches.{both_true}
+use Rattle.isa_goal.proofs.Numbers.{naming_keeps}
 
-types_kept : (es : List TypeEntry) (fs : List TermEntry) → keeps es fs ≡ true → IsKept es fs
-types_kept es [] e = tt
-types_kept es (f ∷ fs) e =
-    let p = and_true (has_type f.term (inst_ty es f.typ)) (keeps es fs) e in
-    (has_type_is f.term (inst_ty es f.typ) p.0, types_kept es fs p.1)
+pub is_kept : (es : List TypeEntry) (fs : List TermEntry) → keeps es fs ≡ true → IsKept es fs
+is_kept es [] k = tt
+is_kept es (f ∷ fs) k = let p = both_true (has_type f.term (inst_ty es f.typ)) (keeps es fs) k in (has_type_is f.term (inst_ty es f.typ) p.0, is_kept es fs p.1)
 
-has_type_true : (t : Tm) (T : Ty) → HasType t T → has_type t T ≡ true
-has_type_true t T h = ap (λ r. typed_as r T) h ∙ (ty_decides T T).1 refl
+pub kept_keeps : (es : List TypeEntry) (fs : List TermEntry) → IsKept es fs → keeps es fs ≡ true
+kept_keeps es [] k = refl
+kept_keeps es (f ∷ fs) k = λ i. (ap (λ r. typed_as r (inst_ty es f.typ)) k.0 ∙ (ty_decides (inst_ty es f.typ) (inst_ty es f.typ)).1 refl) i && kept_keeps es fs k.1 i
 
-keeps_types : (es : List TypeEntry) (fs : List TermEntry) → IsKept es fs → keeps es fs ≡ true
-keeps_types es [] k = refl
-keeps_types es (f ∷ fs) k = λ i. has_type_true f.term (inst_ty es f.typ) k.0 i && keeps_types es fs k.1 i
+each_one : (P : Tm → Type 0) (ts : List Tm) → Each P ts → (t : Tm) → Member t ts → P t
+each_one P [] e t m = absurd m
+each_one P (u ∷ us) e t (inl q) = subst P (sym q) e.0
+each_one P (u ∷ us) e t (inr m) = each_one P us e.1 t m
 
--- conclusions that are equal but for names of binders
-from_same : (ax ps : List Tm) (a b : Tm) → bare a ≡ bare b → From ax ps a → From ax ps b
-from_same ax ps a b e d = subst (λ p. Derives ax [] p) (implies_bare ps a ∙ ap (implies (bares ps)) e ∙ sym (implies_bare ps b)) d
+-- an instance and then another, on the terms
+module _ (n m : Instance) (ts : List Tm) (k : keeps n.types n.terms ≡ true) (l : keeps m.types m.terms ≡ true) where
+  pub both_keep : keeps (followed_by n m ts).types (followed_by n m ts).terms ≡ true
+  both_keep = kept_keeps (followed_by n m ts).types (followed_by n m ts).terms (instances_compose_law n m ts (is_kept n.types n.terms k) (is_kept m.types m.terms l)).0
 
-of_all : (P : Tm → Type 0) (ts : List Tm) → conversion.Each P ts → (t : Tm) → Member t ts → P t
-of_all P [] e t m = absurd m
-of_all P (u ∷ us) e t (inl q) = subst P (sym q) e.0
-of_all P (u ∷ us) e t (inr m) = of_all P us e.1 t m
+  pub both_are : (t : Tm) → Member t ts → IsProposition t → bare (instance_of (followed_by n m ts) t) ≡ bare (instance_of m (instance_of n t))
+  both_are t i h = each_one (λ u. (T : Ty) → HasType u T → bare (instance_of (followed_by n m ts) u) ≡ bare (instance_of m (instance_of n u))) ts (instances_compose_law n m ts (is_kept n.types n.terms k) (is_kept m.types m.terms l)).1 t i prop h
+
+pub instance_proposition : (n : Instance) (t : Tm) → keeps n.types n.terms ≡ true → IsProposition t → IsProposition (instance_of n t)
+instance_proposition n t k h = type_of_typed (inst_norm_typed n.types n.terms (is_kept n.types n.terms k) (typed_of_type [] t prop h))
+
+-- the names of binders do not matter
+pub same_instance : (n : Instance) (t u : Tm) → keeps n.types n.terms ≡ true → IsProposition u → bare t ≡ bare u → bare (instance_of n t) ≡ bare (instance_of n u)
+same_instance n t u k h e =
+    let g : IsProposition t = sym (type_at_bare [] t) ∙ ap (λ x. type_at [] x) e ∙ type_at_bare [] u ∙ h in
+    inst_bare_same n.types n.terms (is_kept n.types n.terms k) (typed_of_type [] t prop g) (typed_of_type [] u prop h) e
+
+pub from_same : (ax ps : List Tm) (q r : Tm) → bare q ≡ bare r → From ax ps q → From ax ps r
+from_same ax ps q r e d = subst (λ p. Derives ax [] p) (implies_bare ps q ∙ ap (implies (bares ps)) e ∙ sym (implies_bare ps r)) d
 
 -- what follows from a state that follows from another follows from that one
-pub follows_on : (ax : List Tm) (s t u : Goals) → IsStanding s → IsStanding t → IsStanding u → Follows ax s t → Follows ax t u → Follows ax s u
-follows_on ax s t u ds dt du f g =
-    let first_kept : KeepsTypes f.inst = types_kept f.inst.types f.inst.terms f.kept in
-    let next_kept : KeepsTypes g.inst = types_kept g.inst.types g.inst.terms g.kept in
-    let both : Instance = followed_by f.inst g.inst (s.goal ∷ s.subgoals) in
-    let composed = instances_compose_law f.inst g.inst (s.goal ∷ s.subgoals) first_kept next_kept in
-    let before : IsProposition s.goal = (derived_propositions s.subgoals s.goal ds.derivation).1 in
-    let between : IsProposition t.goal = (derived_propositions t.subgoals t.goal dt.derivation).1 in
+pub follows_chain : (ax : List Tm) (s t u : Goals) → ArePropositions s.subgoals → IsProposition s.goal → ArePropositions u.subgoals → Follows ax s t → Follows ax t u → Follows ax s u
+follows_chain ax s t u ws hs wu f g =
+    let ts : List Tm = s.goal ∷ s.subgoals in
+    let r : Instance = followed_by f.inst g.inst ts in
+    let kr : keeps r.types r.terms ≡ true = both_keep f.inst g.inst ts f.kept g.kept in
     record {
-      inst = both;
-      kept = keeps_types both.types both.terms composed.0;
+      inst = r;
+      kept = kr;
       goal = g.goal
-          ∙ (inst_bare_same g.inst.types g.inst.terms next_kept (typed_of_type [] t.goal prop between) (inst_norm_typed f.inst.types f.inst.terms first_kept (typed_of_type [] s.goal prop before)) f.goal
-          ∙ sym (composed.1.0 prop before));
+          ∙ same_instance g.inst t.goal (instance_of f.inst s.goal) g.kept (instance_proposition f.inst s.goal f.kept hs) f.goal
+          ∙ sym (both_are f.inst g.inst ts f.kept g.kept s.goal (inl refl) hs);
       subgoals = each_of s.subgoals (λ a m.
-          from_same ax u.subgoals (instance_of g.inst (instance_of f.inst a)) (instance_of both a)
-          (sym (of_all (λ b. (T : Ty) → HasType b T → bare (instance_of both b) ≡ bare (instance_of g.inst (instance_of f.inst b))) s.subgoals composed.1.1 a m prop (propositions_member s.subgoals a (standing_propositions s ds) m)))
-          (chain ax (map (instance_of g.inst) t.subgoals) u.subgoals (instance_of g.inst (instance_of f.inst a)) (standing_propositions u du)
+          from_same ax u.subgoals (instance_of g.inst (instance_of f.inst a)) (instance_of r a)
+          (sym (both_are f.inst g.inst ts f.kept g.kept a (inr m) (propositions_member s.subgoals a ws m)))
+          (chain ax (map (instance_of g.inst) t.subgoals) u.subgoals (instance_of g.inst (instance_of f.inst a)) wu
           (from_instance ax g.inst t.subgoals (instance_of f.inst a) g.kept (of_each _ s.subgoals f.subgoals a m))
           (map_member (instance_of g.inst) (λ p. From ax u.subgoals p) t.subgoals (of_each _ t.subgoals g.subgoals))));
     }
 
--- what follows by some axioms follows by more
-pub follows_by_more : (ax bx : List Tm) (s t : Goals) → Within ax bx → Follows ax s t → Follows bx s t
-follows_by_more ax bx s t w f = record {
-  inst = f.inst;
-  kept = f.kept;
-  goal = f.goal;
-  subgoals = each_of s.subgoals (λ a m. derive_more w (λ r k. k) (of_each _ s.subgoals f.subgoals a m));
-}
+-- ---- canonical forms
+map_propositions : (n : Instance) (ts : List Tm) → keeps n.types n.terms ≡ true → ArePropositions ts → ArePropositions (map (instance_of n) ts)
+map_propositions n [] k w = tt
+map_propositions n (t ∷ ts) k w = (instance_proposition n t k w.0, map_propositions n ts k w.1)
+
+pub canon_propositions : (s : Goals) → ArePropositions s.subgoals → ArePropositions (canon s).subgoals
+canon_propositions s w = map_propositions (naming s) s.subgoals (naming_keeps s) w
+
+instance_normal : (n : Instance) (t : Tm) → keeps n.types n.terms ≡ true → IsProposition t → IsNormal (instance_of n t)
+instance_normal n t k h = norm_normal (inst_typed n.types n.terms (is_kept n.types n.terms k) (typed_of_type [] t prop h))
+
+map_normal : (n : Instance) (ts : List Tm) → keeps n.types n.terms ≡ true → ArePropositions ts → follows.Each IsNormal (map (instance_of n) ts)
+map_normal n [] k w = tt
+map_normal n (t ∷ ts) k w = (instance_normal n t k w.0, map_normal n ts k w.1)
+
+-- a state with its unknowns named is normal
+pub renamed_normal : (s : Goals) → IsStanding s → IsNormalState (renamed s)
+renamed_normal s d =
+    let p = derived_propositions s.subgoals s.goal d.derivation in
+    record { subgoals = map_normal (naming s) s.subgoals (naming_keeps s) p.0; goal = instance_normal (naming s) s.goal (naming_keeps s) p.1 }

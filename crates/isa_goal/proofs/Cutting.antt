@@ -97,7 +97,7 @@ fewer_append : (ps qs H : List Tm) → fewer_hyps ps (fewer_hyps qs H) ≡ fewer
 fewer_append [] qs H = refl
 fewer_append (p ∷ ps) qs H = ap (without p) (fewer_append ps qs H)
 
-two_none : (ps qs H : List Tm) → Within H (ps ++ qs) → fewer_hyps ps (fewer_hyps qs H) ≡ []
+pub two_none : (ps qs H : List Tm) → Within H (ps ++ qs) → fewer_hyps ps (fewer_hyps qs H) ≡ []
 two_none ps qs H w = fewer_append ps qs H ∙ fewer_none (ps ++ qs) H w
 
 -- a rule's premises come in the place of the subgoal that its conclusion equals

@@ -40,7 +40,7 @@ from_all ax ps q w h = subst (λ p. Derives ax [] p) (sym (implies_bare ps q)) (
 pub under : (ax ps : List Tm) (q : Tm) (G : List Tm) → From ax ps q → ((r : Tm) → Member r (bares ps) → Derives ax G r) → Derives ax G (bare q)
 under ax ps q G d h = derive_elims (bares ps) (bare q) (subst (λ p. Derives ax G p) (implies_bare ps q) (derive_more (λ r m. m) (λ r m. absurd m) d)) h
 
-bare_member : (t : Tm) (ts : List Tm) → Member t ts → Member (bare t) (bares ts)
+pub bare_member : (t : Tm) (ts : List Tm) → Member t ts → Member (bare t) (bares ts)
 bare_member t [] m = absurd m
 bare_member t (u ∷ us) (inl e) = inl (ap bare e)
 bare_member t (u ∷ us) (inr m) = inr (bare_member t us m)

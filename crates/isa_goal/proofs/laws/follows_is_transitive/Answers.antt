@@ -1,8 +1,8 @@
-use Rattle.isa_goal.proofs.Chaining.{follows_on, follows_by_more}
+use Rattle.isa_goal.proofs.Refining.{standing_propositions}
+use Rattle.isa_goal.proofs.Deriving.{derived_propositions}
+use Rattle.isa_goal.proofs.Searching.{follows_more}
+use Rattle.isa_goal.proofs.Chaining.{follows_chain}
 use Rattle.isa_goal.proofs.laws.follows_is_transitive.Goals as goal
 
-pub returns-clause-in_turn : goal.returns-clause-in_turn
-returns-clause-in_turn c = follows_on
-
-pub returns-clause-by_more : goal.returns-clause-by_more
-returns-clause-by_more c = follows_by_more
+pub returns : goal.returns
+returns c = record { in_turn = λ ax s t u d e f g h. follows_chain ax s t u (standing_propositions s d) (derived_propositions s.subgoals s.goal d.derivation).1 (standing_propositions u f) g h; by_more = follows_more }

@@ -1,0 +1,118 @@
+-- What the rules give follows.
+use Rattle.std.specs.Prelude.{option_and_then, option_map}
+use Rattle.std.proofs.Common.{◌≡◌, ℕ, List, [], ◌∷◌, map, length, Bool, true, false, cond, Option, Some, None, refl, sym, ap, ◌∙◌, subst}
+use Rattle.isa_terms.specs.Terms.{Tm, bare}
+use Rattle.isa_terms.specs.Instance.{Instance}
+use Rattle.isa_terms.specs.declared.inst.TermEntry.{TermEntry}
+use Rattle.isa_kernel.specs.Axioms.{propositions}
+use Rattle.isa_kernel.specs.Theorem.{Theorem, IsDerived, AreDerived}
+use Rattle.isa_kernel.specs.Inferences.{assumed, implies_introduced, implies_eliminated, instantiated}
+use Rattle.isa_kernel.proofs.Sound.{assumed_sound, implies_introduced_sound, implies_eliminated_sound}
+use Rattle.isa_kernel.proofs.Instances.{instantiated_sound}
+use Rattle.isa_kernel.proofs.Members.{bases_left, bases_right}
+use Rattle.isa_conversion.proofs.Functions.{bind_some}
+use Rattle.isa_goal.specs.Goals.{Goals, implies, premises, conclusion, rule_form, IsStanding, around, refined}
+use Rattle.isa_goal.specs.Steps.{eliminated, introduced, met_under, raised, raised_rule}
+use Rattle.isa_goal.specs.Names.{canon}
+use Rattle.isa_goal.specs.Follows.{Advances}
+use Rattle.isa_goal.specs.Matching.{is_first_order, matched}
+use Rattle.isa_goal.specs.Resolving.{matching, lifted, lifted_by, resolved, is_large, limited, attempt, with_first, results, base_of, FollowsIfFound, AllFollow}
+use Rattle.isa_goal.specs.declared.found.Found.{Found}
+use Rattle.isa_goal.specs.declared.found.Found.TheVariants.{Outside, Res}
+use Rattle.isa_goal.proofs.Numbers.{refined_advances}
+use Rattle.isa_goal.proofs.Lifting.{lifted_is, matching_keeps}
+use Rattle.isa_goal.proofs.Searching.{found_more}
+
+pub eliminated_sound : (ps : List Tm) (th x : Theorem) → eliminated ps th ≡ Some x → IsDerived th → IsDerived x
+unfolding eliminated
+eliminated_sound [] th x e d = subst (λ y. IsDerived y) (cc (e)) d
+eliminated_sound (p ∷ ps) th x e d =
+    let a = bind_some (assumed p) _ e in
+    let n = bind_some (implies_eliminated th a.0) _ a.2 in
+    eliminated_sound ps n.0 x n.2 (implies_eliminated_sound th a.0 n.0 n.1 d (assumed_sound p a.0 a.1))
+
+pub introduced_sound : (ps : List Tm) (th x : Theorem) → introduced ps th ≡ Some x → IsDerived th → IsDerived x
+unfolding introduced
+introduced_sound [] th x e d = subst (λ y. IsDerived y) (cc (e)) d
+introduced_sound (p ∷ ps) th x e d =
+    let i = bind_some (introduced ps th) _ e in
+    implies_introduced_sound p i.0 x i.2 (introduced_sound ps th i.0 i.1 d)
+
+met_sound : (hs ps : List Tm) (th x : Theorem) → met_under hs ps th ≡ Some x → IsDerived th → IsDerived x
+unfolding met_under
+met_sound hs [] th x e d = subst (λ y. IsDerived y) (cc (e)) d
+met_sound hs (p ∷ ps) th x e d =
+    let a = bind_some (assumed (implies hs p)) _ e in
+    let b = bind_some (eliminated hs a.0) _ a.2 in
+    let n = bind_some (implies_eliminated th b.0) _ b.2 in
+    met_sound hs ps n.0 x n.2 (implies_eliminated_sound th b.0 n.0 n.1 d (eliminated_sound hs a.0 b.0 b.1 (assumed_sound (implies hs p) a.0 a.1)))
+
+raised_sound : (hs ps : List Tm) (th x : Theorem) → raised hs ps th ≡ Some x → IsDerived th → IsDerived x
+unfolding raised
+raised_sound hs ps th x e d =
+    let c = bind_some (met_under hs ps th) _ e in
+    let i = bind_some (introduced hs c.0) _ c.2 in
+    introduced_sound (map (implies hs) ps) i.0 x i.2 (introduced_sound hs c.0 i.0 i.1 (met_sound hs ps th c.0 c.1 d))
+
+pub lifted_sound : (hs : List Tm) (c : ℕ) (n : Instance) (th x : Theorem) → lifted_by hs c n th ≡ Some x → IsDerived th → IsDerived x
+unfolding raised_rule
+lifted_sound hs c n th x e d =
+    let i = bind_some (instantiated n th) _ e in
+    let r = bind_some (rule_form c i.0) _ i.2 in
+    raised_sound hs r.0.0 i.0 x r.2 (instantiated_sound n th i.0 i.1 d)
+
+some_of_map : (f : Goals → Goals) (o : Option Goals) (t : Goals) → option_map f o ≡ Some t → (p : Goals) × (o ≡ Some p) × (f p ≡ t)
+some_of_map f None t e = absurd (cc)
+some_of_map f (Some p) t e = (p, refl, cc (e))
+
+resolved_follows : (i : ℕ) (th : Theorem) (s t : Goals) → th.hyps ≡ [] → is_first_order (conclusion th.prop) ≡ true → resolved i th s ≡ Some t → IsStanding s → IsDerived th → Advances (propositions th.base) s t
+resolved_follows i th s t h o e d f =
+    let a = bind_some (around i s.subgoals) _ e in
+    let m = bind_some (matched (conclusion th.prop) (conclusion a.0.1) []) _ a.2 in
+    let n : Instance = matching m.0 th in
+    let rule : Theorem = lifted (premises a.0.1) n th in
+    let made = lifted_is i s th a.0 n d f h a.1 (matching_keeps m.0 th (conclusion a.0.1) o m.1) in
+    let sound : IsDerived rule = lifted_sound (premises a.0.1) (length (premises th.prop)) n th rule made f in
+    let r = some_of_map canon (refined i rule (length (premises th.prop)) s) t m.2 in
+    subst (λ x. Advances (propositions th.base) s x) r.2 (refined_advances i (length (premises th.prop)) rule s r.0 r.1 d sound)
+
+limited_follows : (ax : List Tm) (s t : Goals) (b : Bool) → Advances ax s t → FollowsIfFound ax s (Some (cond b Outside (Res t)))
+limited_follows ax s t true f = tt
+limited_follows ax s t false f = f
+
+tried_follows : (i : ℕ) (th : Theorem) (s : Goals) (o : Option Goals) → th.hyps ≡ [] → is_first_order (conclusion th.prop) ≡ true → resolved i th s ≡ o → IsStanding s → IsDerived th → FollowsIfFound (propositions th.base) s (option_map limited o)
+tried_follows i th s None h c e d f = tt
+tried_follows i th s (Some t) h c e d f = limited_follows (propositions th.base) s t (is_large t) (resolved_follows i th s t h c e d f)
+
+first_follows : (i : ℕ) (th : Theorem) (s : Goals) (b : Bool) → th.hyps ≡ [] → is_first_order (conclusion th.prop) ≡ b → IsStanding s → IsDerived th → FollowsIfFound (propositions th.base) s (cond b (option_map limited (resolved i th s)) (Some Outside))
+first_follows i th s true h e d f = tried_follows i th s (resolved i th s) h e refl d f
+first_follows i th s false h e d f = tt
+
+pub attempt_follows : (i : ℕ) (th : Theorem) (s : Goals) → IsStanding s → IsDerived th → FollowsIfFound (propositions th.base) s (attempt i th s)
+attempt_follows i th s d f = at (around i s.subgoals)
+  where
+    plain : (H : List Tm) → th.hyps ≡ H → FollowsIfFound (propositions th.base) s (elim H [ [] ↦ cond (is_first_order (conclusion th.prop)) (option_map limited (resolved i th s)) (Some Outside) | h ∷ hs ↦ None ])
+    plain [] e = first_follows i th s (is_first_order (conclusion th.prop)) e refl d f
+    plain (h ∷ hs) e = tt
+
+    at : (o : Option (List Tm × Tm × List Tm)) → FollowsIfFound (propositions th.base) s (option_and_then {T = List Tm × Tm × List Tm} {U = Found} (λ a. elim th.hyps [ [] ↦ cond (is_first_order (conclusion th.prop)) (option_map limited (resolved i th s)) (Some Outside) | h ∷ hs ↦ None ]) o)
+    at None = tt
+    at (Some a) = plain th.hyps refl
+
+-- each state among the results follows, under the axioms of all rules
+all_more : (ax bx : List Tm) (s : Goals) (fs : List Found) → ((o : Option Found) → FollowsIfFound ax s o → FollowsIfFound bx s o) → AllFollow ax s fs → AllFollow bx s fs
+all_more ax bx s [] h a = tt
+all_more ax bx s (f ∷ fs) h a = (h (Some f) a.0, all_more ax bx s fs h a.1)
+
+all_first : (ax : List Tm) (s : Goals) (o : Option Found) (fs : List Found) → FollowsIfFound ax s o → AllFollow ax s fs → AllFollow ax s (with_first o fs)
+all_first ax s None fs h a = a
+all_first ax s (Some f) fs h a = (h, a)
+
+pub results_follow : (i : ℕ) (rules : List Theorem) (s : Goals) → IsStanding s → AreDerived rules → AllFollow (propositions (base_of rules)) s (results i rules s)
+unfolding results
+results_follow i [] s d ds = tt
+results_follow i (th ∷ ths) s d ds =
+    let ax : List Tm = propositions (base_of (th ∷ ths)) in
+    all_first ax s (attempt i th s) (results i ths s)
+    (found_more (propositions th.base) ax s (attempt i th s) (bases_left th.base (base_of ths)) (attempt_follows i th s d ds.0))
+    (all_more (propositions (base_of ths)) ax s (results i ths s) (λ o f. found_more (propositions (base_of ths)) ax s o (bases_right th.base (base_of ths)) f) (results_follow i ths s d ds.1))

@@ -1,0 +1,13 @@
+use Rattle.std.proofs.Common.{rules, ◌≡◌, Some, subst}
+use Rattle.isa_goal.specs.Goals.{Goals, Proves}
+use Rattle.isa_goal.specs.Steps.{rotated}
+use Rattle.isa_goal.proofs.Rotating.{put_back_proves, put_back_state}
+use Rattle.isa_goal.proofs.state.State.put_back.Goals as goal
+
+pub invariant_of-result : goal.invariant_of-result
+invariant_of-result c =
+    put_back_proves c.args.others c.args.front c.args.self.now c.self.inside.thm c.in_ok-thm.thm c.in_ok-taken.taken.premises c.split_at_most.result.0.now c.split_at_most.result.1.now _ c.in_ok-taken.taken.conclusion _ c.is_standing.ensures (subst (λ (x : Goals). Proves c.self.inside.thm x) (search rules) c.self.invariant) (search rules) (search rules) (search rules) (search rules) (search rules) (search rules) (search rules)
+
+pub returns : goal.returns
+returns c =
+    put_back_state c.args.others c.args.front c.args.self.now c.self.inside.thm c.in_ok-thm.thm c.in_ok-taken.taken.premises c.split_at_most.result.0.now c.split_at_most.result.1.now _ c.in_ok-taken.taken.conclusion _ c.is_standing.ensures (subst (λ (x : Goals). Proves c.self.inside.thm x) (search rules) c.self.invariant) (search rules) (search rules) (search rules) (search rules) (search rules) (search rules) (search rules)
