@@ -4,7 +4,7 @@ use Rattle.std.specs.Prelude.{ℕ, Bool, true, false, if◌then◌else◌, Optio
 use Rattle.isa_terms.specs.Equal.{name_eq}
 use Rattle.isaprove.specs.declared.refusal.Refusal.{Refusal}
 use Rattle.isaprove.specs.declared.refusal.Refusal.TheVariants.{NotBuilt, NoResult, Memory}
-use Rattle.isaprove.specs.Answer.{AnswersBy}
+use Rattle.isaprove.specs.Answer.{AnswersBy, Refuses}
 use Rattle.isaprove.specs.declared.words.Word.{Word}
 use Rattle.isaprove.specs.declared.words.Word.TheVariants.{Plain, Quoted, Open}
 use Rattle.isaprove.specs.declared.command.Command.{Command}
@@ -87,8 +87,8 @@ axioms_cut all words (w ∷ ws) a e h f =
     ∙ ap (λ (o : Option (List Command)). prepended all (option_and_then (λ more. Some (a ∷ more)) o)) (and_axioms_none w ws f)
 
 -- a part was refused, and so is the whole
-pub refused : {A B C D : Type 0} (v : A → B) (w : C → D) (e : Refusal) (r : Result C Refusal) (part : Option B) (whole : Option D) → AnswersBy v (Err e) part → IsErrAnd r (λ x. x ≡ e) → (part ≡ None → whole ≡ None) → AnswersBy w r whole
-refused {A} {B} {C} {D} v w e (Ok x) part whole h i k = absurd i
-refused {A} {B} {C} {D} v w NotBuilt (Err x) part whole h i k = subst (λ (f : Refusal). AnswersBy {A = C} {B = D} w (Err f) whole) (sym i) (k h)
-refused {A} {B} {C} {D} v w NoResult (Err x) part whole h i k = absurd h
-refused {A} {B} {C} {D} v w Memory (Err x) part whole h i k = subst (λ (f : Refusal). AnswersBy {A = C} {B = D} w (Err f) whole) (sym i) tt
+pub refused : {B C D : Type 0} (w : C → D) (e : Refusal) (r : Result C Refusal) (part : Option B) (whole : Option D) → Refuses part e → IsErrAnd r (λ x. x ≡ e) → (part ≡ None → whole ≡ None) → AnswersBy w r whole
+refused {B} {C} {D} w e (Ok x) part whole h i k = absurd i
+refused {B} {C} {D} w NotBuilt (Err x) part whole h i k = subst (λ (f : Refusal). Refuses {A = D} whole f) (sym i) (k h)
+refused {B} {C} {D} w NoResult (Err x) part whole h i k = absurd h
+refused {B} {C} {D} w Memory (Err x) part whole h i k = subst (λ (f : Refusal). Refuses {A = D} whole f) (sym i) tt

@@ -6,7 +6,7 @@ use Rattle.std.proofs.lemmas.List.{get_or-map, length-map}
 use Rattle.std.specs.Prelude.{String, string_bytes, codes}
 use Rattle.std.specs.declared.alloc.Global.{Global}
 use Rattle.isaprove.specs.declared.status.Status.{Status}
-use Rattle.std.specs.Prelude.{Some, None, Ok, IfSome, IsSomeAnd, IsErrAnd, nat_lt}
+use Rattle.std.specs.Prelude.{Some, None, Ok, Err, IfSome, IsSomeAnd, IsErrAnd, nat_lt}
 use Rattle.std.specs.declared.option.Option.{Option}
 use Rattle.std.specs.declared.result.Result.{Result}
 use Rattle.isa_io.specs.FilesSeen.{FilesSeen, NoFault, text_of, Texts}
@@ -15,7 +15,7 @@ use Rattle.isa_io.specs.declared.reading.ReadFail.TheVariants as fails
 use Rattle.isaprove.specs.Contexts.{ContextSeen, empty_context}
 use Rattle.isaprove.specs.Part.{Part, End, Goes, Stops, stop}
 use Rattle.isaprove.specs.declared.status.Status.TheVariants as status
-use Rattle.isaprove.specs.Run.{Given, Text, Long, Failed, Input, AreInputs, IsReading, as_given, given_text, input_of, limit, run_file, run_files, run_given, fail_at, gave, NoneFailed, names, is_reading, usage, answer_of, code_of}
+use Rattle.isaprove.specs.Run.{Given, Text, Long, Failed, Input, AreInputs, IsReading, as_given, given_text, input_of, limit, run_file, run_files, run_given, run_of, fail_at, gave, NoneFailed, names, is_reading, usage, answer_of, code_of}
 use Rattle.isaprove.specs.Inputs.{RunsFile, RunsFiles, RunsWords}
 use Rattle.isaprove.specs.Printed.{Sinks, NoFault as NoWriteFault, All, Rose, Answers}
 use Rattle.isaprove.specs.Does.{Does, StopsAt, Passes, stop_code}
@@ -265,6 +265,7 @@ answers_whole part answer a b not_5 not_6 status all =
       memory = λ e. absurd (not_6 e);
       status = λ n m. status;
       whole = λ n m. all.writes;
+      sound = λ n m. all.sound;
     }
 
 code_not_5 : (s : Status) → code_of s ≡ 5 → ⊥
@@ -291,6 +292,7 @@ answers_stopped part stops.Memory a b p =
       memory = λ e. p;
       status = λ n m. absurd (m refl);
       whole = λ n m. absurd (m refl);
+      sound = λ n m. absurd (m refl);
     }
 answers_stopped part stops.Write a b p =
     record {
@@ -299,9 +301,35 @@ answers_stopped part stops.Write a b p =
       memory = λ e. absurd (omega (arith, e));
       status = λ n m. absurd (n refl);
       whole = λ n m. absurd (n refl);
+      sound = λ n m. absurd (n refl);
     }
 
 -- over files that tell their texts
 pub answers_told : (texts : Option Texts) (words : List (List ℕ)) (inputs : List Input) (P : List Input → Type 0) → AreInputs texts words inputs → P inputs → IfSome texts (λ told. P (map (input_of told) words))
 answers_told None words inputs P are p = tt
 answers_told (Some told) words inputs P are p = subst P are p
+
+-- over files that tell their texts, where the run was stopped
+pub stopped_told : {T : Type 0} (words : List (List ℕ)) (before now : FilesSeen) (stop : Stop) (answer : ℕ) (a b : Sinks) → RunsWords {T = T} words before now (Err stop) a b → answer ≡ stop_code stop → IfSome before.texts (λ told. Answers (run_of words (gave before now (map (input_of told) words))) answer a b)
+stopped_told {T} words before now stop answer a b r e =
+    answers_told before.texts words r.inputs (λ inputs. Answers (run_of words (gave before now inputs)) answer a b) r.are
+    (subst (λ (n : ℕ). Answers (run_of words (gave before now r.inputs)) n a b) (sym e) (answers_stopped (run_of words (gave before now r.inputs)) stop a b r.does))
+
+-- nothing was run for want of memory
+pub words_nothing : {T : Type 0} (words : List (List ℕ)) (before : FilesSeen) (result : Result T Stop) (a : Sinks) → IsErrAnd result (λ e. e ≡ stops.Memory) → RunsWords words before before result a a
+words_nothing {T} words before result a memory =
+    let some = some_inputs before.texts words in
+    record {
+      inputs = some.0;
+      are = some.1;
+      last = empty_context;
+      does = memory_failed (run_of words (gave before before some.0)) result empty_context a memory;
+    }
+
+-- words that have a reading
+pub runs_words : {T : Type 0} (words : List (List ℕ)) (before now : FilesSeen) (c : ContextSeen) (result : Result T Stop) (last : ContextSeen) (a b : Sinks) → is_reading words ≡ true → c ≡ empty_context → RunsFiles words before now c result last a b → RunsWords words before now result a b
+runs_words {T} words before now c result last a b h e r =
+    let whole : run_files c (gave before now r.inputs) ≡ run_of words (gave before now r.inputs) =
+    ap (λ (d : ContextSeen). run_files d (gave before now r.inputs)) e
+    ∙ sym (ap (λ t. cond t (run_files empty_context (gave before now r.inputs)) (stop status.Usage usage)) h) in
+    record { inputs = r.inputs; are = r.are; last = last; does = subst (λ (p : Part). Does p result last a b) whole r.does }

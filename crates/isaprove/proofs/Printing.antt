@@ -1,21 +1,25 @@
 -- Parts of a run, one after another, and what is written of them.
 use Rattle.std.proofs.Common.{◌≡◌, ℕ, List, [], ◌∷◌, ◌++◌, ◌<◌, ◌+◌, length, map, take, drop, get_or, refl, sym, ap, subst, ◌∙◌, append_assoc, append-nil, inl, inr, arith}
 use Rattle.std.proofs.KnownBytes.{Appends-nil, Appends-trans}
-use Rattle.std.specs.Prelude.{Ok, Err, IsErrAnd}
+use Rattle.std.specs.Prelude.{Option, Some, None, Ok, Err, IsErrAnd, codes}
 use Rattle.std.specs.declared.result.Result.{Result}
 use Rattle.std.specs.Io.KnownBytes.{Appends}
 use Rattle.isa_io.specs.SinkSeen.{SinkSeen, WritesAll, WritesPrefix}
 use Rattle.isaprove.specs.Piece.{Piece, Shown, ToOut, ToErr, out_of, err_of, clip}
 use Rattle.isaprove.specs.Contexts.{ContextSeen}
-use Rattle.isaprove.specs.Part.{Part, End, Goes, Stops, after, next, go_on, pass, show, stop}
-use Rattle.isaprove.specs.Run.{run_command, run_commands, run_line, run_lines}
+use Rattle.isaprove.specs.Part.{Part, End, Goes, Stops, after, next, go_on, pass, show, stop, at_line}
+use Rattle.isaprove.specs.Run.{part_of, run_read, close_text, run_command, run_commands, run_line, run_lines, run_text}
+use Rattle.isaprove.specs.Words.{lines_of}
 use Rattle.isaprove.specs.declared.command.Command.{Command}
 use Rattle.isaprove.specs.declared.status.Status.{Status}
 use Rattle.isaprove.specs.Lines.{line_view}
 use Rattle.isaprove.specs.declared.words.Line.{Line}
 use Rattle.std.proofs.lemmas.List.{drop_more}
 use Rattle.isaprove.specs.Printed.{Sinks, Writes, NoFault, Rose, All, Front, CutShort}
-use Rattle.isaprove.specs.Does.{Does, Passes, StopsAt, sinks}
+use Rattle.isaprove.specs.Does.{Does, Passes, StopsAt, Shows, StopsWith, sinks}
+use Rattle.isaprove.specs.Sound.{AreSound, IsSoundShown}
+use Rattle.isaprove.specs.Steps.{Outcome, Unbuilt, Fails, Takes, Prints}
+use Rattle.isaprove.specs.declared.status.Status.TheVariants as status
 use Rattle.isaprove.specs.declared.status.Stop.{Stop}
 use Rattle.isaprove.specs.declared.status.Stop.TheVariants as stops
 
@@ -33,6 +37,7 @@ cut_out out now err bytes shows p =
         out = subst (λ (bs : List ℕ). Appends out.written now.written bs) (sym (append-nil (take p.count bytes))) p.written;
         err = Appends-nil err.written;
       };
+      sound = tt;
     }
 
 -- one piece for err was cut short
@@ -49,6 +54,7 @@ cut_err out err now bytes p =
         out = Appends-nil out.written;
         err = subst (λ (bs : List ℕ). Appends err.written now.written bs) (sym (append-nil (take p.count bytes))) p.written;
       };
+      sound = tt;
     }
 
 -- a function that returned the stop of a part
@@ -63,7 +69,7 @@ memory_failed {T} part (Err e) state a h =
     subst
     (λ (s : Stop). StopsAt part s a a)
     (sym h)
-    (record { no_fault = record { out = refl; err = refl }; front = []; rest = part.pieces; split = refl; writes = record { out = Appends-nil a.out.written; err = Appends-nil a.err.written } })
+    (record { no_fault = record { out = refl; err = refl }; front = []; rest = part.pieces; split = refl; writes = record { out = Appends-nil a.out.written; err = Appends-nil a.err.written }; sound = tt })
 
 out_of-append : (ps qs : List Piece) → out_of (ps ++ qs) ≡ out_of ps ++ out_of qs
 out_of-append [] qs = refl
@@ -89,11 +95,15 @@ Rose-later : (a b c : Sinks) → NoFault a b → Rose b c → Rose a c
 Rose-later a b c p r = elim r [ inl h ↦ inl (omega (arith, p.out)) | inr h ↦ inr (omega (arith, p.err)) ]
 
 pub All-nothing : (a : Sinks) → All a a []
-All-nothing a = record { no_fault = record { out = refl; err = refl }; writes = record { out = Appends-nil a.out.written; err = Appends-nil a.err.written } }
+All-nothing a = record { no_fault = record { out = refl; err = refl }; writes = record { out = Appends-nil a.out.written; err = Appends-nil a.err.written }; sound = tt }
+
+AreSound-append : (ps qs : List Piece) → AreSound ps → AreSound qs → AreSound (ps ++ qs)
+AreSound-append [] qs p q = q
+AreSound-append (x ∷ ps) qs p q = (p.0, AreSound-append ps qs p.1 q)
 
 All-trans : (a b c : Sinks) (ps qs : List Piece) → All a b ps → All b c qs → All a c (ps ++ qs)
 All-trans a b c ps qs p q =
-    record { no_fault = NoFault-trans a b c p.no_fault q.no_fault; writes = Writes-trans a b c ps qs p.writes q.writes }
+    record { no_fault = NoFault-trans a b c p.no_fault q.no_fault; writes = Writes-trans a b c ps qs p.writes q.writes; sound = AreSound-append ps qs p.sound q.sound }
 
 -- all of the first pieces, and then some of the others
 Front-after : (a b c : Sinks) (ps qs : List Piece) → All a b ps → Front b c qs → Front a c (ps ++ qs)
@@ -104,6 +114,7 @@ Front-after a b c ps qs p q =
       rest = q.rest;
       split = ap (λ xs. ps ++ xs) q.split ∙ sym (append_assoc ps q.front q.rest);
       writes = Writes-trans a b c ps q.front p.writes q.writes;
+      sound = AreSound-append ps q.front p.sound q.sound;
     }
 
 CutShort-after : (a b c : Sinks) (ps qs : List Piece) → All a b ps → CutShort b c qs → CutShort a c (ps ++ qs)
@@ -119,6 +130,7 @@ CutShort-after a b c ps qs p q =
           (λ (xs : List Piece). Writes a c xs)
           (sym (append_assoc ps q.front (clip q.count q.piece ∷ [])))
           (Writes-trans a b c ps (q.front ++ clip q.count q.piece ∷ []) p.writes q.writes);
+      sound = AreSound-append ps q.front p.sound q.sound;
     }
 
 -- some of the first pieces are some of all
@@ -130,6 +142,7 @@ Front-more a b ps qs p =
       rest = p.rest ++ qs;
       split = ap (λ xs. xs ++ qs) p.split ∙ append_assoc p.front p.rest qs;
       writes = p.writes;
+      sound = p.sound;
     }
 
 CutShort-more : (a b : Sinks) (ps qs : List Piece) → CutShort a b ps → CutShort a b (ps ++ qs)
@@ -142,6 +155,7 @@ CutShort-more a b ps qs p =
       rest = p.rest ++ qs;
       split = ap (λ xs. xs ++ qs) p.split ∙ append_assoc p.front (p.piece ∷ p.rest) qs;
       writes = p.writes;
+      sound = p.sound;
     }
 
 -- The pieces so far were written, and the part that remains is still to be run.
@@ -190,14 +204,15 @@ so_far_end whole state a b s =
     (ap (λ p. p.end) s.runs, subst (λ (p : Part). All a b p.pieces) (sym s.runs) (subst (λ (xs : List Piece). All a b xs) (sym (append-nil s.printed)) s.prints))
 
 -- all of a piece for out was written
-pub all_out : (out now err : SinkSeen) (bytes : List ℕ) (shows : Shown) → WritesAll bytes out now → All (sinks out err) (sinks now err) (ToOut bytes shows ∷ [])
-all_out out now err bytes shows w =
+pub all_out : (out now err : SinkSeen) (bytes : List ℕ) (shows : Shown) → IsSoundShown bytes shows → WritesAll bytes out now → All (sinks out err) (sinks now err) (ToOut bytes shows ∷ [])
+all_out out now err bytes shows s w =
     record {
       no_fault = record { out = w.faults; err = refl };
       writes = record {
         out = subst (λ (bs : List ℕ). Appends out.written now.written bs) (sym (append-nil bytes)) w.written;
         err = Appends-nil err.written;
       };
+      sound = (s, tt);
     }
 
 -- all of a piece for err was written
@@ -209,6 +224,7 @@ all_err out err now bytes w =
         out = Appends-nil out.written;
         err = subst (λ (bs : List ℕ). Appends err.written now.written bs) (sym (append-nil bytes)) w.written;
       };
+      sound = (tt, tt);
     }
 
 -- lines from an index on begin with the line there
@@ -229,12 +245,85 @@ lines_stopped whole file state lines i d stop a b c h so p =
 pub commands_step : (file : List ℕ) (line : ℕ) (c : ContextSeen) (commands : List Command) (i : ℕ) (d : Command) → i < length commands → run_commands file line c (drop i commands) ≡ next (run_command file line c (get_or commands i d)) (λ later. run_commands file line later (drop (i + 1) commands))
 commands_step file line c commands i d h = ap (λ xs. run_commands file line c xs) (drop_more commands i d h)
 
-pub commands_passed : (whole : Part) (file : List ℕ) (line : ℕ) (state later : ContextSeen) (commands : List Command) (i : ℕ) (d : Command) (a b c : Sinks) → i < length commands → SoFar whole (run_commands file line state (drop i commands)) a b → Passes (run_command file line state (get_or commands i d)) later b c → SoFar whole (run_commands file line later (drop (i + 1) commands)) a c
-commands_passed whole file line state later commands i d a b c h so p =
+pub commands_passed : (whole : Part) (file : List ℕ) (line : ℕ) (state later : ContextSeen) (commands : List Command) (i : ℕ) (d : Command) (a b c : Sinks) → i < length commands → d ≡ get_or commands i d → SoFar whole (run_commands file line state (drop i commands)) a b → Passes (run_command file line state d) later b c → SoFar whole (run_commands file line later (drop (i + 1) commands)) a c
+commands_passed whole file line state later commands i d a b c h at so p =
     so_far_passed whole (run_command file line state (get_or commands i d)) (λ later. run_commands file line later (drop (i + 1) commands)) later a b c
-    (subst (λ (part : Part). SoFar whole part a b) (commands_step file line state commands i d h) so) p
+    (subst (λ (part : Part). SoFar whole part a b) (commands_step file line state commands i d h) so)
+    (subst (λ (k : Command). Passes (run_command file line state k) later b c) at p)
 
-pub commands_stopped : (whole : Part) (file : List ℕ) (line : ℕ) (state : ContextSeen) (commands : List Command) (i : ℕ) (d : Command) (stop : Stop) (a b c : Sinks) → i < length commands → SoFar whole (run_commands file line state (drop i commands)) a b → StopsAt (run_command file line state (get_or commands i d)) stop b c → StopsAt whole stop a c
-commands_stopped whole file line state commands i d stop a b c h so p =
+pub commands_stopped : (whole : Part) (file : List ℕ) (line : ℕ) (state : ContextSeen) (commands : List Command) (i : ℕ) (d : Command) (stop : Stop) (a b c : Sinks) → i < length commands → d ≡ get_or commands i d → SoFar whole (run_commands file line state (drop i commands)) a b → StopsAt (run_command file line state d) stop b c → StopsAt whole stop a c
+commands_stopped whole file line state commands i d stop a b c h at so p =
     so_far_stopped whole (run_command file line state (get_or commands i d)) (λ later. run_commands file line later (drop (i + 1) commands)) stop a b c
-    (subst (λ (part : Part). SoFar whole part a b) (commands_step file line state commands i d h) so) p
+    (subst (λ (part : Part). SoFar whole part a b) (commands_step file line state commands i d h) so)
+    (subst (λ (k : Command). StopsAt (run_command file line state k) stop b c) at p)
+
+-- a function that stops the run
+pub stops_does : {T : Type 0} (part : Part) (r : Result T Stop) (c : ContextSeen) (a b : Sinks) → StopsWith part r a b → Does part r c a b
+stops_does {T} part (Ok x) c a b h = absurd h
+stops_does {T} part (Err e) c a b h = h
+
+pub returns_stops : {T : Type 0} (part : Part) (r : Result T Stop) (stop : Stop) (before now : Sinks) → IsErrAnd r (λ e. e ≡ stop) → StopsAt part stop before now → StopsWith part r before now
+returns_stops {T} part (Ok x) stop before now h at = absurd h
+returns_stops {T} part (Err e) stop before now h at = subst (λ (s : Stop). StopsAt part s before now) (sym h) at
+
+pub memory_stops : {T : Type 0} (part : Part) (r : Result T Stop) (a : Sinks) → IsErrAnd r (λ e. e ≡ stops.Memory) → StopsWith part r a a
+memory_stops {T} part (Ok x) a h = absurd h
+memory_stops {T} part (Err e) a h =
+    subst
+    (λ (s : Stop). StopsAt part s a a)
+    (sym h)
+    (record { no_fault = record { out = refl; err = refl }; front = []; rest = part.pieces; split = refl; writes = record { out = Appends-nil a.out.written; err = Appends-nil a.err.written }; sound = tt })
+
+-- what comes of a command was printed, or told
+pub outcome_printed : {T : Type 0} (file : List ℕ) (line : ℕ) (o : Outcome) (bytes : List ℕ) (shows : Shown) (c : ContextSeen) (r : Result T Stop) (a b : Sinks) → o ≡ Prints bytes shows c → IsSoundShown bytes shows → Shows bytes r a b → Does (part_of file line o) r c a b
+outcome_printed {T} file line o bytes shows c r a b e s p = subst (λ (o : Outcome). Does (part_of file line o) r c a b) (sym e) (p shows c s)
+
+pub outcome_taken : {T : Type 0} (file : List ℕ) (line : ℕ) (o : Outcome) (c : ContextSeen) (x : T) (a : Sinks) → o ≡ Takes c → Does {T = T} (part_of file line o) (Ok x) c a a
+outcome_taken {T} file line o c x a e = subst (λ (o : Outcome). Does {T = T} (part_of file line o) (Ok x) c a a) (sym e) (refl, All-nothing a)
+
+pub outcome_unbuilt : {T : Type 0} (file : List ℕ) (line : ℕ) (o : Outcome) (c : ContextSeen) (r : Result T Stop) (a b : Sinks) → o ≡ Unbuilt → StopsWith (stop status.Refused (at_line file line (codes "not built yet"))) r a b → Does (part_of file line o) r c a b
+outcome_unbuilt {T} file line o c r a b e p = subst (λ (o : Outcome). Does (part_of file line o) r c a b) (sym e) (stops_does _ r c a b p)
+
+pub outcome_fails : {T : Type 0} (file : List ℕ) (line : ℕ) (o : Outcome) (c : ContextSeen) (r : Result T Stop) (a b : Sinks) → o ≡ Fails → StopsWith (stop status.NoResult (at_line file line (codes "no result"))) r a b → Does (part_of file line o) r c a b
+outcome_fails {T} file line o c r a b e p = subst (λ (o : Outcome). Does (part_of file line o) r c a b) (sym e) (stops_does _ r c a b p)
+
+-- a line was read, or refused
+pub line_read : {T : Type 0} (file : List ℕ) (line : ℕ) (c later : ContextSeen) (o : Option (List Command)) (commands : List Command) (r : Result T Stop) (a b : Sinks) → o ≡ Some commands → Does (run_commands file line c commands) r later a b → Does (run_read file line c o) r later a b
+line_read {T} file line c later o commands r a b e d = subst (λ (o : Option (List Command)). Does (run_read file line c o) r later a b) (sym e) d
+
+pub line_refused : {T : Type 0} (file : List ℕ) (line : ℕ) (c later : ContextSeen) (o : Option (List Command)) (r : Result T Stop) (a b : Sinks) → o ≡ None → StopsWith (stop status.Refused (at_line file line (codes "not built yet"))) r a b → Does (run_read file line c o) r later a b
+line_refused {T} file line c later o r a b e d = subst (λ (o : Option (List Command)). Does (run_read file line c o) r later a b) (sym e) (stops_does _ r later a b d)
+
+-- nothing was written
+pub front_nothing : (a : Sinks) (ps : List Piece) → Front a a ps
+front_nothing a ps = record { no_fault = record { out = refl; err = refl }; front = []; rest = ps; split = refl; writes = record { out = Appends-nil a.out.written; err = Appends-nil a.err.written }; sound = tt }
+
+-- the function that runs what remains returned
+pub so_far_does : {T : Type 0} (whole part : Part) (r : Result T Stop) (state : ContextSeen) (a b c : Sinks) → SoFar whole part a b → Does part r state b c → Does whole r state a c
+so_far_does {T} whole part (Ok x) state a b c s d =
+    (ap (λ p. p.end) s.runs ∙ d.0, subst (λ (p : Part). All a c p.pieces) (sym s.runs) (All-trans a b c s.printed part.pieces s.prints d.1))
+so_far_does {T} whole part (Err (stops.Ended status)) state a b c s d =
+    (ap (λ p. p.end) s.runs ∙ d.0, subst (λ (p : Part). All a c p.pieces) (sym s.runs) (All-trans a b c s.printed part.pieces s.prints d.1))
+so_far_does {T} whole part (Err stops.Memory) state a b c s d = subst (λ (p : Part). Front a c p.pieces) (sym s.runs) (Front-after a b c s.printed part.pieces s.prints d)
+so_far_does {T} whole part (Err stops.Write) state a b c s d = subst (λ (p : Part). CutShort a c p.pieces) (sym s.runs) (CutShort-after a b c s.printed part.pieces s.prints d)
+
+abbrev closing : List ℕ → ContextSeen → Part
+closing file d = close_text file d d.lemma
+
+text_part : (file : List ℕ) (c : ContextSeen) (text : List ℕ) (ls : List (ℕ × List ℕ)) → ls ≡ lines_of text → run_text file c text ≡ next (run_lines file c ls) (closing file)
+unfolding run_text
+text_part file c text ls e = ap (λ xs. next (run_lines file c xs) (closing file)) (sym e)
+
+-- the lines of a text stopped the run
+pub text_stopped : {T : Type 0} (file : List ℕ) (c last : ContextSeen) (text : List ℕ) (ls : List (ℕ × List ℕ)) (r : Result T Stop) (stop : Stop) (a b : Sinks) → ls ≡ lines_of text → IsErrAnd r (λ e. e ≡ stop) → StopsAt (run_lines file c ls) stop a b → Does (run_text file c text) r last a b
+text_stopped {T} file c last text ls r stop a b e i s =
+    subst (λ (p : Part). Does p r last a b) (sym (text_part file c text ls e))
+    (returns_stop (next (run_lines file c ls) (closing file)) r stop last a b i
+    (so_far_stopped (next (run_lines file c ls) (closing file)) (run_lines file c ls) (closing file) stop a a b (so_far_nothing (next (run_lines file c ls) (closing file)) a) s))
+
+-- the lines of a text passed, and the text was closed
+pub text_closed : {T : Type 0} (file : List ℕ) (c d last : ContextSeen) (text : List ℕ) (ls : List (ℕ × List ℕ)) (r : Result T Stop) (a b e : Sinks) → ls ≡ lines_of text → Passes (run_lines file c ls) d a b → Does (close_text file d d.lemma) r last b e → Does (run_text file c text) r last a e
+text_closed {T} file c d last text ls r a b e same p k =
+    subst (λ (q : Part). Does q r last a e) (sym (text_part file c text ls same))
+    (so_far_does (next (run_lines file c ls) (closing file)) (closing file d) r last a b e
+    (so_far_passed (next (run_lines file c ls) (closing file)) (run_lines file c ls) (closing file) d a a b (so_far_nothing (next (run_lines file c ls) (closing file)) a) p) k)

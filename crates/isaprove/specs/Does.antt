@@ -4,6 +4,7 @@ use Rattle.std.specs.declared.result.Result.{Result}
 use Rattle.isa_io.specs.SinkSeen.{SinkSeen}
 use Rattle.isaprove.specs.Part.{Part, Goes, Stops, show}
 use Rattle.isaprove.specs.Piece.{Shown}
+use Rattle.isaprove.specs.Sound.{IsSoundShown}
 use Rattle.isaprove.specs.Contexts.{ContextSeen}
 use Rattle.isaprove.specs.Run.{code_of}
 use Rattle.isaprove.specs.Printed.{Sinks, All, Front, CutShort}
@@ -34,10 +35,11 @@ stop_code (stops.Ended status) = code_of status
 stop_code stops.Memory = 6
 stop_code stops.Write = 5
 
--- the bytes were printed to out, whatever they show
+-- the bytes were printed to out, whatever sound thing they show
 abbrev pub Shows : {T : Type 0} → List ℕ → Result T Stop → Sinks → Sinks → Type 0
-Shows bytes result before now = (shows : Shown) (c : ContextSeen) → Does (show bytes shows c) result c before now
+Shows bytes result before now = (shows : Shown) (c : ContextSeen) → IsSoundShown bytes shows → Does (show bytes shows c) result c before now
 
--- the part, which stops the run, was run, whatever context is left
+-- the part, which stops the run, was run
 abbrev pub StopsWith : {T : Type 0} → Part → Result T Stop → Sinks → Sinks → Type 0
-StopsWith part result before now = (c : ContextSeen) → Does part result c before now
+StopsWith part (Ok x) before now = ⊥
+StopsWith part (Err stop) before now = StopsAt part stop before now

@@ -8,6 +8,7 @@ pub mod Text
 pub mod Piece
 pub mod Part
 pub mod Steps
+pub mod Sound
 pub mod Taken
 pub mod Run
 pub mod Printed

@@ -21,7 +21,7 @@ use Rattle.isaprove.specs.declared.context.OpenLemma.{OpenLemma}
 use Rattle.isaprove.specs.declared.command.Command.{Command}
 use Rattle.isaprove.specs.declared.command.Command.TheVariants as command
 use Rattle.isaprove.specs.Commands.{◌>>=◌}
-use Rattle.isaprove.specs.Contexts.{ContextSeen, fact_of}
+use Rattle.isaprove.specs.Contexts.{ContextSeen, fact_of, judgment_name}
 use Rattle.isaprove.specs.Inner.{type_of_text, judged_type, prop_of_text}
 use Rattle.isaprove.specs.Piece.{Shown, ShownState, ShownTheorem}
 use Rattle.isaprove.specs.Text.{state_text, theorem_text}
@@ -76,11 +76,6 @@ with_lemma c line x text =
     else (prop_of_text c true text >>= (λ p. option_map (λ s. record c { lemma = Some (record { line = line; name = x; state = canon s }) }) (started p)))
 
 -- ---- proof commands
--- the name of the judgment
-abbrev pub judgment_name : Option Judgment → List ℕ
-judgment_name None = []
-judgment_name (Some j) = j.name
-
 -- the first thing that is found, where it is a state
 abbrev pub first_state : List Found → Option Goals
 first_state (Res s ∷ fs) = Some s
@@ -90,10 +85,14 @@ first_state _ = None
 abbrev pub is_matchable : Theorem → Goals → Bool
 is_matchable th s = all_first_order (th ∷ []) && not (has_parameter 1 s)
 
+-- the state of the open lemma is s
+abbrev pub with_state : ContextSeen → Goals → ContextSeen
+with_state c s = record c { lemma = option_map (λ (l : OpenLemma). record l { state = s }) c.lemma }
+
 -- the state s is that of the open lemma, and is printed
 abbrev pub shown : ContextSeen → OpenLemma → Theorem → Option Goals → Outcome
 shown c l th None = Fails
-shown c l th (Some s) = Prints (state_text (judgment_name c.judgment) s.subgoals) (ShownState c (th ∷ []) l.state s) (record c { lemma = Some (record l { state = s }) })
+shown c l th (Some s) = Prints (state_text (judgment_name c.judgment) s.subgoals) (ShownState c (th ∷ []) l.state s) (with_state c s)
 
 abbrev pub matched_by : ContextSeen → OpenLemma → Theorem → Outcome
 matched_by c l th = if is_matchable th l.state then shown c l th (first_state (results 1 (th ∷ []) l.state)) else Unbuilt

@@ -37,10 +37,14 @@ prop_text judgment left (App (App c a) b) =
     else judgment_text judgment (App (App c a) b)
 prop_text judgment left t = judgment_text judgment t
 
--- the subgoals' lines, numbered from n on
+-- the line of subgoal n
+unfoldable pub subgoal_text : List ℕ → ℕ → Tm → List ℕ
+subgoal_text judgment n t = codes " " ++ (decimal n ++ (codes ". " ++ (prop_text judgment false t ++ codes "\n")))
+
+-- the lines of subgoals, numbered from n on
 unfoldable pub subgoals_text : List ℕ → ℕ → List Tm → List ℕ
 subgoals_text judgment n [] = []
-subgoals_text judgment n (t ∷ ts) = (codes " " ++ (decimal n ++ (codes ". " ++ (prop_text judgment false t ++ codes "\n")))) ++ subgoals_text judgment (n + 1) ts
+subgoals_text judgment n (t ∷ ts) = subgoal_text judgment n t ++ subgoals_text judgment (n + 1) ts
 
 -- the line above n subgoals
 abbrev pub count_text : ℕ → List ℕ

@@ -6,8 +6,9 @@ ghost use Rattle.isa_kernel.specs.declared.declarations.Declaration.TheVariants.
 ghost use Rattle.isa_goal.specs.Goals.{started};
 ghost use Rattle.isa_goal.specs.Names.{canon};
 ghost use Rattle.isaprove.specs.Answer.{Answers};
-ghost use Rattle.isaprove.specs.Contexts.{empty_context, fact_of};
-ghost use Rattle.isaprove.specs.Steps.{declared, with_type, with_constant, with_consts, with_judgment, with_axiom, with_lemma, judgment_name, matched, finished};
+ghost use Rattle.isaprove.specs.Contexts.{empty_context, fact_of, judgment_name};
+ghost use Rattle.isaprove.specs.Sound.{RestsOn};
+ghost use Rattle.isaprove.specs.Steps.{declared, with_type, with_constant, with_consts, with_judgment, with_axiom, with_lemma, with_state, matched, finished};
 ghost use Rattle.isaprove.specs.Text.{state_text};
 ghost use Rattle.isaprove.specs.Taken.{Becomes, Printing};
 
@@ -54,11 +55,17 @@ pub struct Context {
 }
 
 impl Model for Context {
-    ghost use Rattle.isaprove.specs.Contexts.{ContextSeen};
+    ghost use Rattle.isaprove.specs.Contexts.{ContextSeen, context_code};
 
     ghost Value = { ContextSeen };
 
+    ghost coded = { context_code };
+
+    ghost use Rattle.isaprove.specs.Sound.{IsGrounded};
+
     ghost view = { λ c. record { theory = c.theory; judgment = c.judgment; facts = c.facts.items; lemma = c.lemma } };
+
+    ghost invariant = { λ c. IsGrounded (record { theory = c.theory; judgment = c.judgment; facts = c.facts.items; lemma = c.lemma }) };
 }
 
 impl Context {
@@ -236,7 +243,8 @@ impl Context {
 
     /// Puts the state in the place of the open lemma's.
     fn replace_state(&mut self, state: State)
-        ensures { self.new ≡ record self.old { lemma = option_map (λ l. record l { state = state }) self.old.lemma } }
+        requires { RestsOn self.old.theory state.base }
+        ensures { self.new ≡ with_state self.old state }
     {
         if let Some(lemma) = &mut self.lemma {
             lemma.state = state;
@@ -254,12 +262,12 @@ impl Context {
         let Ok(thm) = lemma.state.finish() else {
             return Err(Refusal::NoResult);
         };
-        let thm = general_theorem(alloc, &thm)?;
+        let general = general_theorem(alloc, &thm)?;
         let judgment = self.judgment_name(alloc)?;
-        let text = theorem_text(alloc, &judgment, &lemma.name, thm.prop())?;
+        let text = theorem_text(alloc, &judgment, &lemma.name, general.prop())?;
         self.facts.push(Fact {
             name: lemma.name,
-            thm,
+            thm: general,
         })?;
         Ok(text)
     }

@@ -27,7 +27,7 @@ fn at_line(alloc: Global, file: &str, number: usize, text: &str) -> Result<Strin
 }
 
 /// Tells a line of the file, and stops the run.
-#[tactic(auto, using(crate::proofs::Printing::memory_failed))]
+#[tactic(auto, using(crate::proofs::Printing::memory_stops))]
 fn tell<O: Sink, E: Sink>(
     alloc: Global,
     file: &str,
@@ -88,7 +88,7 @@ fn take(
 }
 
 /// Runs a command of that line.
-#[tactic(auto, unfolding(crate::specs::Run::run_command))]
+#[tactic(auto, unfolding(crate::specs::Run::run_command), using(crate::proofs::Printing::front_nothing))]
 fn run_command<O: Sink, E: Sink>(
     alloc: Global,
     file: &str,
@@ -150,7 +150,7 @@ fn read_line(alloc: Global, line: &Line<'_>) -> Result<Vec<Command>, Refusal>
 }
 
 /// Runs a line.
-#[tactic(auto, unfolding(crate::specs::Run::run_line))]
+#[tactic(auto, unfolding(crate::specs::Run::run_line), using(crate::proofs::Printing::front_nothing))]
 fn run_line<O: Sink, E: Sink>(
     alloc: Global,
     file: &str,

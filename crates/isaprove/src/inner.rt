@@ -1,5 +1,5 @@
 //! The types and propositions of quoted texts.
-ghost use Rattle.std.specs.Prelude.{◌≡◌, IfSome, IfNone, Some, None};
+ghost use Rattle.std.specs.Prelude.{◌≡◌, IfOk, IfSome, IfNone, Some, None};
 ghost use Rattle.isaprove.specs.Answer.{Answers, AnswersBy};
 ghost use Rattle.isaprove.specs.Inner.{behind_word, type_within, type_of_text, judged_type, variable, atom, judged, term_within, arguments_within, item_within, prop_within, prop_of_text, in_parentheses};
 

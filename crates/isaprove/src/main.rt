@@ -9,6 +9,8 @@ mod output;
 mod proof;
 mod refusal;
 mod status;
+#[cfg(test)]
+mod tests;
 mod text;
 mod top;
 mod words;

@@ -18,6 +18,7 @@ pub fn print<O: Sink, E: Sink>(piece: &[u8], out: &mut O, err: &mut E) -> Result
 }
 
 /// Prints a message to err, and stops the run.
+#[tactic(auto, using(crate::proofs::Printing::memory_stops))]
 pub fn report<O: Sink, E: Sink>(
     alloc: Global,
     status: Status,

@@ -1,6 +1,7 @@
 //! The commands of a proof.
-ghost use Rattle.std.specs.Prelude.{◌≡◌, ◌++◌, OnOk};
+ghost use Rattle.std.specs.Prelude.{◌≡◌, ◌++◌, IfOk, OnOk};
 ghost use Rattle.isa_kernel.specs.Inferences.{generalized};
+ghost use Rattle.isa_kernel.specs.Theorem.{IsDerived};
 ghost use Rattle.isaprove.specs.Answer.{Answers};
 ghost use Rattle.isaprove.specs.Steps.{free_names};
 ghost use Rattle.isaprove.specs.Taken.{FirstResult};
@@ -47,12 +48,16 @@ fn push_free_names(t: &Term, names: &mut Names) -> Result<(), AllocError>
 
 /// The theorem with unknowns for its free variables.
 pub fn general_theorem(alloc: Global, thm: &Thm) -> Result<Thm, Refusal>
-    ensures { Answers result (generalized (free_names thm.now.prop) thm.now) }
+    ensures general { Answers result (generalized (free_names thm.now.prop) thm.now) }
+    ensures derived { IfOk result (λ th. IsDerived th) }
 {
     let mut names = Names::new(alloc);
     push_free_names(thm.prop(), &mut names)?;
     match generalize(alloc, &names, thm) {
-        Ok(general) => Ok(general),
+        Ok(general) => {
+            general.is_derived();
+            Ok(general)
+        }
         Err(InferenceError::Shape) => Err(Refusal::NotBuilt),
         Err(InferenceError::Memory) => Err(Refusal::Memory),
     }

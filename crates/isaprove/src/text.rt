@@ -1,7 +1,7 @@
 //! The printed text of terms, states and theorems.
 ghost use Rattle.std.specs.Prelude.{◌≡◌, ◌<◌, ◌^◌, ◌∷◌, ◌++◌, length, codes, decimal, true, false, IfOk, IfSome, IfNone, OnOk, string_bytes};
 ghost use Rattle.isa_terms.specs.Terms.{nodes};
-ghost use Rattle.isaprove.specs.Text.{unknown_text, parenthesized, term_text, is_constant, judgment_text, prop_text, subgoals_text, count_text, state_text, theorem_text, IsImplication, IsOther};
+ghost use Rattle.isaprove.specs.Text.{unknown_text, parenthesized, term_text, is_constant, judgment_text, prop_text, subgoal_text, subgoals_text, count_text, state_text, theorem_text, IsImplication, IsOther};
 
 use isa_terms::{Name, Term, TermNode};
 use std::alloc::{AllocError, Global};
@@ -127,6 +127,7 @@ fn push_prop(
     }
 }
 
+#[tactic(auto, unfolding(crate::specs::Text::subgoal_text))]
 fn push_subgoal(
     alloc: Global,
     judgment: &[u8],
@@ -134,7 +135,7 @@ fn push_subgoal(
     t: &Term,
     text: &mut Vec<u8>,
 ) -> Result<(), AllocError>
-    ensures { OnOk result (text.new.items ≡ text.old.items ++ (codes " " ++ (decimal number ++ (codes ". " ++ (prop_text judgment.now false t.now ++ codes "\n"))))) }
+    ensures { OnOk result (text.new.items ≡ text.old.items ++ subgoal_text judgment.now number t.now) }
 {
     let label = format!(in alloc; " {number}. ")?;
     push_all(text, label.as_bytes())?;
