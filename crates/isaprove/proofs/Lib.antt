@@ -7,3 +7,4 @@ pub mod Printing
 pub mod InputLemmas
 pub mod SoundLemmas
 pub mod MatchLemmas
+pub mod CauseLemmas

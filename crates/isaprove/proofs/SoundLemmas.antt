@@ -1,18 +1,16 @@
 -- What rests on declared axioms, as more are declared.
 use Rattle.std.proofs.Common.{◌≡◌, ℕ, List, [], ◌∷◌, ◌++◌, map, Bool, true, false, cond, Option, Some, None, Ok, Err, inl, inr, refl, sym, ap, subst, ◌∙◌, append-nil}
-use Rattle.std.specs.Prelude.{Result, IfSome}
+use Rattle.std.specs.Prelude.{IfSome, option_map}
 use Rattle.std.specs.Map.{lookup}
 use Rattle.std.proofs.lemmas.List.{map-append}
 use Rattle.isa_terms.specs.Terms.{Tm, bare}
 use Rattle.isa_terms.specs.Equal.{name_eq}
 use Rattle.isa_kernel.specs.declared.axioms.NamedProp.{NamedProp}
 use Rattle.isa_kernel.specs.declared.declarations.Declaration.{Declaration}
-use Rattle.isa_kernel.specs.declared.declarations.TheoryFail.{TheoryFail}
-use Rattle.isa_kernel.specs.declared.declarations.TheoryFail.TheVariants as fail
 use Rattle.isa_kernel.specs.Axioms.{propositions, has_axiom, missing_axioms, joined_bases}
 use Rattle.isa_kernel.specs.Derivation.{Derives, Member, Within}
 use Rattle.isa_kernel.specs.Theorem.{Theorem, IsDerived}
-use Rattle.isa_kernel.specs.Theories.{Declares, axiom_prop, axiom_theorem, axioms_in}
+use Rattle.isa_kernel.specs.Theories.{axiom_prop, axiom_theorem, axioms_in}
 use Rattle.isa_kernel.proofs.Members.{Member-left, Within-append}
 use Rattle.isa_kernel.proofs.Rules.{tree_more}
 use Rattle.isa_kernel.proofs.Theories.{axioms_append}
@@ -77,16 +75,6 @@ lemma_within : (ds es : List Declaration) (o : Option OpenLemma) → Within (axi
 lemma_within ds es None w h = tt
 lemma_within ds es (Some l) w h = Within-trans (propositions l.state.base) (axioms_of ds) (axioms_of es) h w
 
--- the declarations before a call of the theory are those in front of the ones behind it
-pub declares_grow : (d : Declaration) (refusal : Option TheoryFail) (old new : List Declaration) (r : Result (Unit {0}) TheoryFail) → Declares d refusal old new r → (more : List Declaration) × (new ≡ old ++ more)
-declares_grow d refusal old new (Ok done) h = (d ∷ [], h.1)
-declares_grow d refusal old new (Err fail.Memory) h = ([], h ∙ sym (append-nil old))
-declares_grow d refusal old new (Err (fail.Duplicate x)) h = ([], h.1 ∙ sym (append-nil old))
-declares_grow d refusal old new (Err (fail.Unknown x)) h = ([], h.1 ∙ sym (append-nil old))
-declares_grow d refusal old new (Err (fail.Misfit x)) h = ([], h.1 ∙ sym (append-nil old))
-declares_grow d refusal old new (Err (fail.IllTyped x)) h = ([], h.1 ∙ sym (append-nil old))
-declares_grow d refusal old new (Err (fail.NotProp T)) h = ([], h.1 ∙ sym (append-nil old))
-
 pub grounded_grow : (c : ContextSeen) (more : List Declaration) → IsGrounded c → IsGrounded (record c { theory = c.theory ++ more })
 grounded_grow c more g =
     record {
@@ -94,18 +82,16 @@ grounded_grow c more g =
       lemma = lemma_within c.theory (c.theory ++ more) c.lemma (axioms_grow c.theory more) g.lemma;
     }
 
-pub grounded_declares : (c : ContextSeen) (d : Declaration) (refusal : Option TheoryFail) (new : List Declaration) (r : Result (Unit {0}) TheoryFail) → IsGrounded c → Declares d refusal c.theory new r → IsGrounded (record c { theory = new })
-grounded_declares c d refusal new r g h =
-    let grown = declares_grow d refusal c.theory new r h in
-    subst (λ (ds : List Declaration). IsGrounded (record c { theory = ds })) (sym grown.1) (grounded_grow c grown.0 g)
+pub grounded_new : (c : ContextSeen) (new more : List Declaration) → IsGrounded c → new ≡ c.theory ++ more → IsGrounded (record c { theory = new })
+grounded_new c new more g e = subst (λ (ds : List Declaration). IsGrounded (record c { theory = ds })) (sym e) (grounded_grow c more g)
 
 -- ---- facts
-grounded_append : (ds : List Declaration) (fs gs : List Fact) → AreGrounded ds fs → AreGrounded ds gs → AreGrounded ds (fs ++ gs)
+pub grounded_append : (ds : List Declaration) (fs gs : List Fact) → AreGrounded ds fs → AreGrounded ds gs → AreGrounded ds (fs ++ gs)
 grounded_append ds [] gs p q = q
 grounded_append ds (f ∷ fs) gs p q = (p.0, grounded_append ds fs gs p.1 q)
 
-pub grounded_fact : (c : ContextSeen) (f : Fact) → IsGrounded c → RestsOn c.theory f.thm.base → IsGrounded (record c { facts = c.facts ++ f ∷ [] })
-grounded_fact c f g h = record { facts = grounded_append c.theory c.facts (f ∷ []) g.facts (h, tt); lemma = g.lemma }
+pub grounded_fact : (c : ContextSeen) (fs : List Fact) (f : Fact) → IsGrounded c → fs ≡ c.facts ++ f ∷ [] → RestsOn c.theory f.thm.base → IsGrounded (record c { facts = fs })
+grounded_fact c fs f g e h = record { facts = subst (λ (xs : List Fact). AreGrounded c.theory xs) (sym e) (grounded_append c.theory c.facts (f ∷ []) g.facts (h, tt)); lemma = g.lemma }
 
 fact_here : (ds : List Declaration) (f : Fact) (fs : List Fact) (x : List ℕ) (th : Theorem) (b : Bool) → RestsOn ds f.thm.base → (fact_of fs x ≡ Some th → RestsOn ds th.base) → cond b (Some f.thm) (fact_of fs x) ≡ Some th → RestsOn ds th.base
 fact_here ds f fs x th true h k e = let same : f.thm ≡ th = cc (e) in subst (λ (t : Theorem). RestsOn ds t.base) same h
@@ -127,3 +113,10 @@ lookup_member x (e ∷ es) q h = looked_up x e es q (name_eq x e.0) (λ k. looku
 pub axiom_rests : (ds : List Declaration) (x : List ℕ) (q : Tm) → axiom_prop ds x ≡ Some q → RestsOn ds (axiom_theorem x q).base
 axiom_rests ds x q e p (inl same) = subst (λ (r : Tm). Member r (axioms_of ds)) (sym same) (lookup_member x (axioms_in ds) q e)
 axiom_rests ds x q e p (inr none) = absurd none
+
+axiom_at : (ds : List Declaration) (x : List ℕ) (th : Theorem) (o : Option Tm) → axiom_prop ds x ≡ o → option_map (axiom_theorem x) o ≡ Some th → RestsOn ds th.base
+axiom_at ds x th None e h = absurd cc
+axiom_at ds x th (Some q) e h = let same : axiom_theorem x q ≡ th = cc (h) in subst (λ (t : Theorem). RestsOn ds t.base) same (axiom_rests ds x q e)
+
+pub axiom_fact_rests : (ds : List Declaration) (x : List ℕ) (th : Theorem) → option_map (axiom_theorem x) (axiom_prop ds x) ≡ Some th → RestsOn ds th.base
+axiom_fact_rests ds x th h = axiom_at ds x th (axiom_prop ds x) refl h

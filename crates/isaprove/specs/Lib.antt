@@ -14,3 +14,4 @@ pub mod Run
 pub mod Printed
 pub mod Does
 pub mod Inputs
+pub mod Causes

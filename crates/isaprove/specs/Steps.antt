@@ -85,9 +85,13 @@ first_state _ = None
 abbrev pub is_matchable : Theorem → Goals → Bool
 is_matchable th s = all_first_order (th ∷ []) && not (has_parameter 1 s)
 
--- the state of the open lemma is s
+-- the open lemma with another state
+abbrev pub lemma_with : Option OpenLemma → Goals → Option OpenLemma
+lemma_with None s = None
+lemma_with (Some l) s = Some (record l { state = s })
+
 abbrev pub with_state : ContextSeen → Goals → ContextSeen
-with_state c s = record c { lemma = option_map (λ (l : OpenLemma). record l { state = s }) c.lemma }
+with_state c s = record c { lemma = lemma_with c.lemma s }
 
 -- the state s is that of the open lemma, and is printed
 abbrev pub shown : ContextSeen → OpenLemma → Theorem → Option Goals → Outcome

@@ -8,7 +8,7 @@ ghost use Rattle.isa_goal.specs.Names.{canon};
 ghost use Rattle.isaprove.specs.Answer.{Answers};
 ghost use Rattle.isaprove.specs.Contexts.{empty_context, fact_of, judgment_name};
 ghost use Rattle.isaprove.specs.Sound.{RestsOn};
-ghost use Rattle.isaprove.specs.Steps.{declared, with_type, with_constant, with_consts, with_judgment, with_axiom, with_lemma, with_state, matched, finished};
+ghost use Rattle.isaprove.specs.Steps.{declared, with_type, with_constant, with_consts, with_judgment, with_axiom, with_lemma, lemma_with, with_state, matched, finished};
 ghost use Rattle.isaprove.specs.Text.{state_text};
 ghost use Rattle.isaprove.specs.Taken.{Becomes, Printing};
 
@@ -122,18 +122,18 @@ impl Context {
 
     /// Declares a type constructor without arguments.
     #[tactic(auto, unfolding(crate::specs::Steps::with_type), using(crate::proofs::TakenLemmas::declares))]
-    pub fn declare_type(&mut self, name: &Name) -> Result<(), Refusal>
+    pub fn declare_type(&mut self, alloc: Global, name: &Name) -> Result<(), Refusal>
         ensures { Becomes result self.new (with_type self.old name.now) }
     {
-        self.theory.declare_type(name, 0)?;
+        self.theory.declare_type(alloc, name, 0)?;
         Ok(())
     }
 
     #[tactic(auto, unfolding(crate::specs::Steps::with_constant), using(crate::proofs::TakenLemmas::declares))]
-    fn declare_constant(&mut self, name: &Name, typ: &Typ) -> Result<(), Refusal>
+    fn declare_constant(&mut self, alloc: Global, name: &Name, typ: &Typ) -> Result<(), Refusal>
         ensures { Becomes result self.new (with_constant self.old name.now typ.now) }
     {
-        self.theory.declare_const(name, typ)?;
+        self.theory.declare_const(alloc, name, typ)?;
         Ok(())
     }
 
@@ -143,7 +143,7 @@ impl Context {
         ensures { Becomes result self.new (with_consts self.old name.now text.now) }
     {
         let typ = type_of_text(alloc, text)?;
-        self.declare_constant(name, &typ)
+        self.declare_constant(alloc, name, &typ)
     }
 
     /// Declares the judgment by the text of its type, `T => prop`.
@@ -161,7 +161,7 @@ impl Context {
         }
         let typ = judged_type(alloc, text)?;
         let judgment = function_type(alloc, typ.copy()?, prop_type(alloc)?)?;
-        self.declare_constant(name, &judgment)?;
+        self.declare_constant(alloc, name, &judgment)?;
         self.judgment = Some(Judgment {
             name: name.copy()?,
             typ,
@@ -246,9 +246,7 @@ impl Context {
         requires { RestsOn self.old.theory state.base }
         ensures { self.new ≡ with_state self.old state }
     {
-        if let Some(lemma) = &mut self.lemma {
-            lemma.state = state;
-        }
+        self.lemma = lemma_with(self.lemma.take(), state);
     }
 
     /// `done`: closes the open lemma where no subgoal is left, stores its theorem, and gives its text.
@@ -294,6 +292,20 @@ impl Context {
             state,
         });
         Ok(())
+    }
+}
+
+/// The open lemma with another state.
+fn lemma_with(lemma: Option<OpenLemma>, state: State) -> Option<OpenLemma>
+    ensures { result ≡ lemma_with lemma state }
+{
+    match lemma {
+        None => None,
+        Some(old) => Some(OpenLemma {
+            line: old.line,
+            name: old.name,
+            state,
+        }),
     }
 }
 

@@ -58,7 +58,7 @@ fn declare(
         return Err(Refusal::NotBuilt);
     }
     match command {
-        Command::Typedecl(name) => context.declare_type(name),
+        Command::Typedecl(name) => context.declare_type(alloc, name),
         Command::Judgment(name, text) => context.declare_judgment(alloc, name, text),
         Command::Consts(name, text) => context.declare_consts(alloc, name, text),
         Command::Axiom(name, text) => context.add_axiom(alloc, name, text),

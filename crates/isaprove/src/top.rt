@@ -1,7 +1,7 @@
 //! The top call.
 ghost use Rattle.std.specs.Prelude.{◌≡◌, ◌-◌, ◌^◌, ◌<◌, ◌+◌, ◌++◌, codes, string_bytes, map, IfOk, IfSome, MatchResult};
 ghost use Rattle.isa_io.specs.FilesSeen.{NoFault};
-ghost use Rattle.isaprove.specs.Contexts.{ContextSeen};
+ghost use Rattle.isaprove.specs.Causes.{IsUsage, IsReadFault};
 ghost use Rattle.isaprove.specs.Does.{Does, sinks};
 ghost use Rattle.isaprove.specs.Inputs.{given_view, RunsFile, RunsFiles, RunsWords, AnswersAny};
 ghost use Rattle.isaprove.specs.Printed.{Answers};
@@ -175,8 +175,8 @@ fn run_words<F: Files, O: Sink, E: Sink>(
     run_files(alloc, words, &mut context, files, out, err)
 }
 
-/// Runs a command line over files that none was opened of, and answers the status.
-pub fn run<F: Files, O: Sink, E: Sink>(
+/// Runs the words, and answers the status.
+fn answer<F: Files, O: Sink, E: Sink>(
     alloc: Global,
     words: &[String],
     files: &mut F,
@@ -200,4 +200,30 @@ pub fn run<F: Files, O: Sink, E: Sink>(
         Ok(()) => 0,
         Err(stop) => stop.code(),
     }
+}
+
+/// Runs a command line over files that none was opened of, and answers the status.
+pub fn run<F: Files, O: Sink, E: Sink>(
+    alloc: Global,
+    words: &[String],
+    files: &mut F,
+    out: &mut O,
+    err: &mut E,
+) -> u8
+    requires faults { (F.seen files.old).faults < 2 ^ 64 - 1 }
+    requires opens { (F.seen files.old).opens ≡ 0 }
+    requires out { (O.seen out.old).faults < 2 ^ 64 - 1 }
+    requires err { (E.seen err.old).faults < 2 ^ 64 - 1 }
+    // Over files that tell their texts.
+    ensures told { IfSome (F.seen files.old).texts (λ texts. Answers
+        (run_of (names words.now) (gave (F.seen files.old) (F.seen files.new) (map (input_of texts) (names words.now))))
+        result
+        (sinks (O.seen out.old) (E.seen err.old)) (sinks (O.seen out.new) (E.seen err.new))) }
+    // Over any files, whatever they gave.
+    ensures any { AnswersAny (names words.now) (F.seen files.old) (F.seen files.new) result
+        (sinks (O.seen out.old) (E.seen err.old)) (sinks (O.seen out.new) (E.seen err.new)) }
+    ensures usage { IsUsage (names words.now) result }
+    ensures read_fault { IsReadFault (names words.now) (F.seen files.old) (F.seen files.new) result }
+{
+    answer(alloc, words, files, out, err)
 }

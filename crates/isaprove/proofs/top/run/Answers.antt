@@ -1,5 +1,8 @@
-use Rattle.isaprove.proofs.InputLemmas.{stopped_told}
+use Rattle.isaprove.proofs.CauseLemmas.{usage_is, read_fault_is}
 use Rattle.isaprove.proofs.top.run.Goals as goal
 
-pub returns-in-Err-clause-told : goal.returns-in-Err-clause-told
-returns-in-Err-clause-told g c = stopped_told _ _ _ c.in-Err.stop c.code.result _ _ c.in-Err.ensures c.code.ensures
+pub returns-clause-usage : goal.returns-clause-usage
+returns-clause-usage g c = usage_is _ _ _ _ _ _ c.answer.ensures.any
+
+pub returns-clause-read_fault : goal.returns-clause-read_fault
+returns-clause-read_fault g c = read_fault_is _ _ _ _ _ _ c.answer.ensures.any
