@@ -1,2 +1,10 @@
 pub mod LineLemmas
 pub mod CommandLemmas
+pub mod TextLemmas
+pub mod InnerLemmas
+pub mod TakenLemmas
+pub mod Printing
+pub mod InputLemmas
+pub mod SoundLemmas
+pub mod MatchLemmas
+pub mod CauseLemmas

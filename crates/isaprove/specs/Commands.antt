@@ -26,7 +26,7 @@ is_name (b ∷ bs) = is_letter b && list_all is_name_byte bs
 
 -- NAME, where the word is `NAME:`
 unfoldable pub label_of : List ℕ → Option (List ℕ)
-label_of word = let name = take (length word - 1) word in if name_eq word (name ++ codes ":") && is_name name then Some name else None
+label_of word = let end = length word - 1 in if name_eq (drop end word) (codes ":") && is_name (take end word) then Some (take end word) else None
 
 -- the first word, where it does not stand within quotes, and those behind it
 abbrev pub next_plain : List Word → Option (List ℕ × List Word)

@@ -2,3 +2,16 @@ pub mod Answer
 pub mod Words
 pub mod Lines
 pub mod Commands
+pub mod Contexts
+pub mod Inner
+pub mod Text
+pub mod Piece
+pub mod Part
+pub mod Steps
+pub mod Sound
+pub mod Taken
+pub mod Run
+pub mod Printed
+pub mod Does
+pub mod Inputs
+pub mod Causes

@@ -44,7 +44,18 @@ pub fn is_name(bytes: &[u8]) -> bool
     let Some((first, rest)) = bytes.split_first() else {
         return false;
     };
-    is_letter(*first) && rest.iter().all(|b| is_name_byte(*b))
+    is_letter(*first) && are_name_bytes(rest)
+}
+
+fn are_name_bytes(bytes: &[u8]) -> bool
+    ensures { result ≡ list_all is_name_byte bytes.now }
+{
+    for b in bytes {
+        if !is_name_byte(*b) {
+            return false;
+        }
+    }
+    true
 }
 
 /// The identifier in front of the word's colon.
@@ -52,10 +63,11 @@ pub fn is_name(bytes: &[u8]) -> bool
 fn label_of(alloc: Global, word: &[u8]) -> Result<Name, Refusal>
     ensures { Answers result (label_of word.now) }
 {
-    let Some((last, name)) = word.split_last() else {
+    let Some(end) = word.len().checked_sub(1) else {
         return Err(Refusal::NotBuilt);
     };
-    if *last != b':' {
+    let (name, colon) = word.split_at(end);
+    if colon != b":".as_slice() {
         return Err(Refusal::NotBuilt);
     }
     if !is_name(name) {

@@ -1,11 +1,13 @@
-//! Why a line is not taken.
+//! Why a command is not taken.
 use std::alloc::{AllocError, AllocFailed};
 
-/// Why a line is not taken.
+/// Why a command is not taken.
 #[derive(Clone, Copy, Debug, PartialEq, Eq)]
 pub enum Refusal {
     /// It has none of the forms that are built.
     NotBuilt,
+    /// Its method has no result.
+    NoResult,
     /// Memory ran out.
     Memory,
 }

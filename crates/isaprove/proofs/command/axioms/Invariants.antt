@@ -3,8 +3,8 @@ use Rattle.isaprove.specs.Commands.{axioms}
 use Rattle.isaprove.proofs.CommandLemmas.{prepended}
 use Rattle.isaprove.proofs.command.axioms.Given as goal
 
-abbrev pub invariant-loop-rest : goal.invariant-loop-rest
-invariant-loop-rest l = axioms l.words ≡ prepended l.all.items (axioms l.rest)
+abbrev pub invariant-loop-all : goal.invariant-loop-all
+invariant-loop-all l = axioms l.words ≡ prepended l.all.items (axioms l.rest)
 
-abbrev pub decreases-loop-rest : goal.decreases-loop-rest
-decreases-loop-rest l = length l.rest
+abbrev pub decreases-loop-all : goal.decreases-loop-all
+decreases-loop-all l = length l.rest

@@ -1,0 +1,18 @@
+use Rattle.std.proofs.Common.{◌≡◌, ap, sym, subst, ◌∙◌}
+use Rattle.std.specs.Prelude.{Some}
+use Rattle.isaprove.specs.Contexts.{ContextSeen}
+use Rattle.isaprove.specs.Sound.{IsGrounded}
+use Rattle.isaprove.proofs.MatchLemmas.{result_rests, match_printed}
+use Rattle.isaprove.proofs.context.Context.apply_match.Goals as goal
+
+pub replace_state-requires : goal.replace_state-requires
+replace_state-requires c =
+    let grounded : IsGrounded c.args.self.now = subst (λ (d : ContextSeen). IsGrounded d) c.self.view_is c.self.invariant in
+    let is_open : c.args.self.now.lemma ≡ Some c.in-Some.lemma = cc (ap (λ (d : ContextSeen). d.lemma) c.self.view_is, c.in-Some.is) in
+    result_rests c.args.self.now c.args.name.now c.in-Some.lemma c.in-Some-fact.rule.now c.in_ok-state.state grounded is_open c.in-Some-fact.ensures.found c.in_ok-state.ensures
+
+pub returns : goal.returns
+returns c =
+    let grounded : IsGrounded c.args.self.now = subst (λ (d : ContextSeen). IsGrounded d) c.self.view_is c.self.invariant in
+    let is_open : c.args.self.now.lemma ≡ Some c.in-Some.lemma = cc (ap (λ (d : ContextSeen). d.lemma) c.self.view_is, c.in-Some.is) in
+    match_printed c.args.self.now c.replace_state.new.self c.args.name.now c.in_ok-text.text.items c.in-Some.lemma c.in-Some-fact.rule.now c.in_ok-state.state grounded is_open c.in-Some-fact.ensures.found c.in_ok-state.ensures c.in_ok-text.ensures c.replace_state.ensures

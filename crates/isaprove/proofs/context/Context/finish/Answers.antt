@@ -1,0 +1,33 @@
+use Rattle.std.proofs.Common.{◌≡◌, ap, sym, subst, ◌∙◌}
+use Rattle.std.specs.Prelude.{ℕ, List, Some}
+use Rattle.isa_terms.specs.Terms.{Tm}
+use Rattle.isaprove.specs.Contexts.{ContextSeen}
+use Rattle.isaprove.specs.Piece.{Shown}
+use Rattle.isaprove.specs.Sound.{IsSoundShown}
+use Rattle.isaprove.specs.Steps.{Prints, finished}
+use Rattle.isaprove.specs.Text.{theorem_text}
+use Rattle.isaprove.proofs.MatchLemmas.{finish_fails, finish_printed, proved_rests, proved_next, grounded_proved}
+use Rattle.isaprove.proofs.context.Context.finish.Goals as goal
+
+pub returns-in_default-finish : goal.returns-in_default-finish
+returns-in_default-finish c =
+    let is_open : c.args.self.now.lemma ≡ Some c.in-Some.lemma = cc (ap (λ (d : ContextSeen). d.lemma) c.self.view_is, c.in-Some.ensures.value, c.in-Some.is) in
+    finish_fails c.args.self.now c.in-Some.lemma c.in_default-finish.field-0 is_open c.in_default-finish.ensures
+
+pub invariant_of-self-3 : goal.invariant_of-self-3
+invariant_of-self-3 c =
+    let is_open : c.self.inside.lemma ≡ Some c.in-Some.lemma = cc (c.in-Some.ensures.value, c.in-Some.is) in
+    grounded_proved _ _ _ _ c.self.invariant c.in_ok-push.ensures.items c.in-Some.ensures.after
+    (proved_rests _ c.in-Some.lemma c.in-Ok.thm c.in_ok-general.general c.self.invariant is_open c.in-Ok.ensures c.in_ok-general.ensures.general)
+
+pub returns : goal.returns
+returns c =
+    let is_open : c.self.inside.lemma ≡ Some c.in-Some.lemma = cc (c.in-Some.ensures.value, c.in-Some.is) in
+    let printed : c.in_ok-text.text.items ≡ theorem_text c.in_ok-judgment.judgment c.in-Some.lemma.name c.in_ok-general.general.prop =
+    c.in_ok-text.ensures ∙ ap (λ (p : Tm). theorem_text c.in_ok-judgment.judgment c.in-Some.lemma.name p) c.prop.ensures in
+    subst
+    (λ (d : ContextSeen). (shows : Shown) × (finished d ≡ Prints c.in_ok-text.text.items shows _) × IsSoundShown c.in_ok-text.text.items shows)
+    c.self.view_is
+    (finish_printed _ _ c.in_ok-text.text.items c.in-Some.lemma c.in-Ok.thm c.in_ok-general.general c.self.invariant is_open c.in-Ok.ensures c.in_ok-general.ensures.general c.in_ok-general.ensures.derived
+    (printed ∙ ap (λ (j : List ℕ). theorem_text j c.in-Some.lemma.name c.in_ok-general.general.prop) c.in_ok-judgment.ensures)
+    (proved_next _ _ _ _ c.in_ok-push.ensures.items c.in-Some.ensures.after))

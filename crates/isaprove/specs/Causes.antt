@@ -1,0 +1,19 @@
+-- When a run answers 64, and 4.
+use Rattle.std.specs.Prelude.{◌≡◌, ◌≢◌, ◌⊎◌, ℕ, ◌<◌, false, List, [], ◌∷◌, None, IsSomeAnd}
+use Rattle.isa_io.specs.FilesSeen.{FilesSeen, Texts, text_of}
+use Rattle.isaprove.specs.Run.{is_reading}
+
+-- The answer 64 comes exactly where the words have no reading. Faults of the sinks and want of memory have their own answers.
+pub record IsUsage (words : List (List ℕ)) (answer : ℕ) : Type 0 where
+  pub only : answer ≡ 64 → is_reading words ≡ false
+  pub always : is_reading words ≡ false → answer ≢ 5 → answer ≢ 6 → answer ≡ 64
+
+-- no text has the name of one of the words
+abbrev pub SomeAbsent : Texts → List (List ℕ) → Type 0
+SomeAbsent texts [] = ⊥
+SomeAbsent texts (word ∷ words) = (text_of texts word ≡ None) ⊎ SomeAbsent texts words
+
+-- the answer 4 comes only where the files' count of faults rose, or where the texts are told and none has the name of a word
+abbrev pub IsReadFault : List (List ℕ) → FilesSeen → FilesSeen → ℕ → Type 0
+IsReadFault words before now answer =
+    answer ≡ 4 → (before.faults < now.faults) ⊎ IsSomeAnd before.texts (λ texts. SomeAbsent texts words)

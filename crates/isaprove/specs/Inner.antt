@@ -1,0 +1,126 @@
+-- The types and propositions of quoted texts, by their words.
+-- A TYPE is NAMEs joined by `=>`. A TERM is a NAME with arguments, each a NAME or `(TERM)`.
+-- A PROP is TERMs or `(PROP)` joined by `==>` to the right; each TERM there gets the judgment.
+use Rattle.std.specs.Prelude.{ℕ, zero, suc, Bool, true, false, if◌then◌else◌, List, [], ◌∷◌, Option, Some, None, option_map, option_and_then, codes}
+use Rattle.isa_terms.specs.Types.{Ty, TyCon, NoTys}
+use Rattle.isa_terms.specs.Terms.{Tm, Const, Free, Unknown, App}
+use Rattle.isa_terms.specs.Typing.{function_of}
+use Rattle.isa_terms.specs.Equal.{name_eq}
+use Rattle.isa_kernel.specs.Logic.{prop, imp}
+use Rattle.isa_kernel.specs.Forms.{predicate_of}
+use Rattle.isa_kernel.specs.Theories.{constant_type}
+use Rattle.isaprove.specs.declared.context.Judgment.{Judgment}
+use Rattle.isaprove.specs.Words.{plain_words}
+use Rattle.isaprove.specs.Commands.{◌>>=◌, is_name}
+use Rattle.isaprove.specs.Contexts.{ContextSeen}
+
+-- A step into parentheses, to the next argument or behind a `==>` or `=>` is one deeper. No place is deeper than this.
+abbrev pub deepest : ℕ
+deepest = 1000
+
+-- the words behind this one
+abbrev pub behind_word : List ℕ → List (List ℕ) → Option (List (List ℕ))
+behind_word text [] = None
+behind_word text (w ∷ ws) = if name_eq w text then Some ws else None
+
+-- what is read, where no word is left
+abbrev pub all_read : {A : Type 0} → A × List (List ℕ) → Option A
+all_read (a, []) = Some a
+all_read (a, w ∷ ws) = None
+
+-- the type T, or `T => U` where the words go on
+abbrev pub longer_type : (List (List ℕ) → Option Ty) → Ty → List (List ℕ) → Option Ty
+longer_type inner T [] = Some T
+longer_type inner T (w ∷ ws) = do
+  rest ← behind_word (codes "=>") (w ∷ ws)
+  U ← inner rest
+  Some (function_of T U)
+
+abbrev pub type_step : (List (List ℕ) → Option Ty) → List (List ℕ) → Option Ty
+type_step inner [] = None
+type_step inner (w ∷ ws) = if is_name w then longer_type inner (TyCon w NoTys) ws else None
+
+-- the TYPE of the words, where it is nested at most n deep
+unfoldable pub type_within : ℕ → List (List ℕ) → Option Ty
+type_within zero ws = None
+type_within (suc n) ws = type_step (type_within n) ws
+
+-- the TYPE of a text
+unfoldable pub type_of_text : List ℕ → Option Ty
+type_of_text text = type_within deepest (plain_words text)
+
+-- T, where the text is `T => prop`
+unfoldable pub judged_type : List ℕ → Option Ty
+judged_type text = type_of_text text >>= predicate_of
+
+-- a variable: fixed in a lemma, unknown in an axiom
+abbrev pub variable : Bool → List ℕ → Ty → Tm
+variable true x T = Free x T
+variable false x T = Unknown x 0 T
+
+-- a NAME: the constant of that name, or a variable of the judgment's argument type
+abbrev pub atom_at : Bool → List ℕ → Option Judgment → Option Ty → Option Tm
+atom_at fixed x j (Some T) = Some (Const x T)
+atom_at fixed x j None = option_map (λ k. variable fixed x k.typ) j
+
+unfoldable pub atom : ContextSeen → Bool → List ℕ → Option Tm
+atom c fixed x = atom_at fixed x c.judgment (constant_type c.theory x)
+
+-- the term with the judgment in front
+unfoldable pub judged : ContextSeen → Tm → Option Tm
+judged c t = option_map (λ k. App (Const k.name (function_of k.typ prop)) t) c.judgment
+
+-- what stands behind an open parenthesis, up to its own closing one
+abbrev pub in_parentheses : (List (List ℕ) → Option (Tm × List (List ℕ))) → List (List ℕ) → Option (Tm × List (List ℕ))
+in_parentheses inner ws = do
+  p ← inner ws
+  rest ← behind_word (codes ")") p.1
+  Some (p.0, rest)
+
+-- a NAME, and then its arguments by `more`
+abbrev pub term_step : (Tm → List (List ℕ) → Option (Tm × List (List ℕ))) → ContextSeen → Bool → List (List ℕ) → Option (Tm × List (List ℕ))
+term_step more c fixed [] = None
+term_step more c fixed (w ∷ ws) = if is_name w then (atom c fixed w >>= (λ t. more t ws)) else None
+
+-- the next argument of f, a NAME or a TERM in parentheses, and then others by `more`; or else f is all
+abbrev pub arguments_step : (List (List ℕ) → Option (Tm × List (List ℕ))) → (Tm → List (List ℕ) → Option (Tm × List (List ℕ))) → ContextSeen → Bool → Tm → List (List ℕ) → Option (Tm × List (List ℕ))
+arguments_step inner more c fixed f [] = Some (f, [])
+arguments_step inner more c fixed f (w ∷ ws) =
+    if name_eq w (codes "(") then (in_parentheses inner ws >>= (λ p. more (App f p.0) p.1))
+    else (if is_name w then (atom c fixed w >>= (λ a. more (App f a) ws)) else Some (f, w ∷ ws))
+
+-- a PROP in parentheses, or a TERM with the judgment
+abbrev pub item_step : (List (List ℕ) → Option (Tm × List (List ℕ))) → (List (List ℕ) → Option (Tm × List (List ℕ))) → ContextSeen → List (List ℕ) → Option (Tm × List (List ℕ))
+item_step inner term c [] = None
+item_step inner term c (w ∷ ws) =
+    if name_eq w (codes "(") then in_parentheses inner ws
+    else (term (w ∷ ws) >>= (λ p. judged c p.0 >>= (λ t. Some (t, p.1))))
+
+-- A, or `A ==> B` where the words go on so
+abbrev pub implying : (List (List ℕ) → Option (Tm × List (List ℕ))) → Tm × List (List ℕ) → Option (List (List ℕ)) → Option (Tm × List (List ℕ))
+implying inner p None = Some p
+implying inner p (Some rest) = do
+  q ← inner rest
+  Some (imp p.0 q.0, q.1)
+
+-- what stands in front of the words, and the words behind it, where it is nested at most n deep
+unfoldable mutual
+  pub term_within : ℕ → ContextSeen → Bool → List (List ℕ) → Option (Tm × List (List ℕ))
+  term_within zero c fixed ws = None
+  term_within (suc n) c fixed ws = term_step (arguments_within n c fixed) c fixed ws
+
+  pub arguments_within : ℕ → ContextSeen → Bool → Tm → List (List ℕ) → Option (Tm × List (List ℕ))
+  arguments_within zero c fixed f ws = None
+  arguments_within (suc n) c fixed f ws = arguments_step (term_within n c fixed) (arguments_within n c fixed) c fixed f ws
+
+  pub item_within : ℕ → ContextSeen → Bool → List (List ℕ) → Option (Tm × List (List ℕ))
+  item_within zero c fixed ws = None
+  item_within (suc n) c fixed ws = item_step (prop_within n c fixed) (term_within n c fixed) c ws
+
+  pub prop_within : ℕ → ContextSeen → Bool → List (List ℕ) → Option (Tm × List (List ℕ))
+  prop_within zero c fixed ws = None
+  prop_within (suc n) c fixed ws = item_within n c fixed ws >>= (λ p. implying (prop_within n c fixed) p (behind_word (codes "==>") p.1))
+
+-- the PROP of a text, whose variables are fixed or unknown
+unfoldable pub prop_of_text : ContextSeen → Bool → List ℕ → Option Tm
+prop_of_text c fixed text = prop_within deepest c fixed (plain_words text) >>= all_read
