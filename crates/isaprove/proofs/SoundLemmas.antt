@@ -1,5 +1,5 @@
 -- What rests on declared axioms, as more are declared.
-use Rattle.std.proofs.Common.{◌≡◌, ℕ, List, [], ◌∷◌, ◌++◌, map, Bool, true, false, cond, Option, Some, None, Ok, Err, inl, inr, refl, sym, ap, subst, ◌∙◌, append-nil}
+use Rattle.std.proofs.Common.{◌≡◌, ℕ, List, [], ◌∷◌, ◌++◌, map, Bool, true, false, cond, Option, Some, None, inl, inr, refl, sym, ap, subst, ◌∙◌}
 use Rattle.std.specs.Prelude.{IfSome, option_map}
 use Rattle.std.specs.Map.{lookup}
 use Rattle.std.proofs.lemmas.List.{map-append}
@@ -9,13 +9,14 @@ use Rattle.isa_kernel.specs.declared.axioms.NamedProp.{NamedProp}
 use Rattle.isa_kernel.specs.declared.declarations.Declaration.{Declaration}
 use Rattle.isa_kernel.specs.Axioms.{propositions, has_axiom, missing_axioms, joined_bases}
 use Rattle.isa_kernel.specs.Derivation.{Derives, Member, Within}
-use Rattle.isa_kernel.specs.Theorem.{Theorem, IsDerived}
+use Rattle.isa_kernel.specs.Theorem.{Theorem}
 use Rattle.isa_kernel.specs.Theories.{axiom_prop, axiom_theorem, axioms_in}
 use Rattle.isa_kernel.proofs.Members.{Member-left, Within-append}
 use Rattle.isa_kernel.proofs.Rules.{tree_more}
 use Rattle.isa_kernel.proofs.Theories.{axioms_append}
 use Rattle.isa_goal.specs.Goals.{Goals, implies}
-use Rattle.isa_goal.specs.Follows.{Each, Follows, instance}
+use Rattle.isa_goal.specs.Follows.{Each, Follows}
+use Rattle.isa_terms.specs.Instance.{instance_of}
 use Rattle.isaprove.specs.declared.context.Fact.{Fact}
 use Rattle.isaprove.specs.declared.context.OpenLemma.{OpenLemma}
 use Rattle.isaprove.specs.Contexts.{ContextSeen, fact_of}
@@ -32,11 +33,10 @@ each_more ax more f (t ∷ ts) w e = (derives_more ax more [] (f t) w e.0, each_
 pub follows_more : (ax more : List Tm) (s t : Goals) → Within ax more → Follows ax s t → Follows more s t
 follows_more ax more s t w f =
     record {
-      types = f.types;
-      terms = f.terms;
+      inst = f.inst;
       kept = f.kept;
       goal = f.goal;
-      subgoals = each_more ax more (λ a. bare (implies t.subgoals (instance f.types f.terms a))) s.subgoals w f.subgoals;
+      subgoals = each_more ax more (λ a. bare (implies t.subgoals (instance_of f.inst a))) s.subgoals w f.subgoals;
     }
 
 -- ---- bases
@@ -50,7 +50,7 @@ missing_here known cs a false w p (inr m) = inr (w p m)
 
 missing_within : (known cs : List NamedProp) → Within (propositions (missing_axioms known cs)) (propositions cs)
 missing_within known [] p m = m
-missing_within known (a ∷ cs) = missing_here known cs a (has_axiom known a) (missing_within known cs)
+missing_within known (a ∷ cs) p m = missing_here known cs a (has_axiom known a) (missing_within known cs) p m
 
 pub rests_joined : (ds : List Declaration) (a b : List NamedProp) → RestsOn ds a → RestsOn ds b → RestsOn ds (joined_bases a b)
 rests_joined ds a b v w =

@@ -1,6 +1,7 @@
-use Rattle.std.proofs.Common.{◌≡◌, ap, sym, subst, ◌∙◌}
+use Rattle.std.proofs.Common.{◌≡◌, ap, subst, ◌∙◌}
 use Rattle.std.specs.Prelude.{ℕ, List, Some}
 use Rattle.isa_terms.specs.Terms.{Tm}
+use Rattle.isaprove.specs.declared.context.Fact.{Fact}
 use Rattle.isaprove.specs.Contexts.{ContextSeen}
 use Rattle.isaprove.specs.Piece.{Shown}
 use Rattle.isaprove.specs.Sound.{IsSoundShown}
@@ -25,9 +26,12 @@ returns c =
     let is_open : c.self.inside.lemma ≡ Some c.in-Some.lemma = cc (c.in-Some.ensures.value, c.in-Some.is) in
     let printed : c.in_ok-text.text.items ≡ theorem_text c.in_ok-judgment.judgment c.in-Some.lemma.name c.in_ok-general.general.prop =
     c.in_ok-text.ensures ∙ ap (λ (p : Tm). theorem_text c.in_ok-judgment.judgment c.in-Some.lemma.name p) c.prop.ensures in
+    let now : ContextSeen = record { theory = c.self.inside.theory; judgment = c.self.inside.judgment; facts = c.push.new.self.items; lemma = c.take.new.self } in
+    let fact : Fact = record { name = c.in-Some.lemma.name; thm = c.in_ok-general.general } in
+    let before : ContextSeen = record { theory = c.self.inside.theory; judgment = c.self.inside.judgment; facts = c.self.inside.facts.items; lemma = c.self.inside.lemma } in
     subst
-    (λ (d : ContextSeen). (shows : Shown) × (finished d ≡ Prints c.in_ok-text.text.items shows _) × IsSoundShown c.in_ok-text.text.items shows)
+    (λ (d : ContextSeen). (shows : Shown) × (finished d ≡ Prints c.in_ok-text.text.items shows now) × IsSoundShown c.in_ok-text.text.items shows)
     c.self.view_is
-    (finish_printed _ _ c.in_ok-text.text.items c.in-Some.lemma c.in-Ok.thm c.in_ok-general.general c.self.invariant is_open c.in-Ok.ensures c.in_ok-general.ensures.general c.in_ok-general.ensures.derived
+    (finish_printed before now c.in_ok-text.text.items c.in-Some.lemma c.in-Ok.thm c.in_ok-general.general c.self.invariant is_open c.in-Ok.ensures c.in_ok-general.ensures.general c.in_ok-general.ensures.derived
     (printed ∙ ap (λ (j : List ℕ). theorem_text j c.in-Some.lemma.name c.in_ok-general.general.prop) c.in_ok-judgment.ensures)
-    (proved_next _ _ _ _ c.in_ok-push.ensures.items c.in-Some.ensures.after))
+    (proved_next before c.push.new.self.items c.take.new.self fact c.in_ok-push.ensures.items c.in-Some.ensures.after))
