@@ -9,7 +9,7 @@ use Rattle.isaprove.specs.declared.words.Word.{Word}
 use Rattle.isaprove.specs.declared.words.Word.TheVariants.{Plain, Quoted, Open}
 use Rattle.isaprove.specs.declared.command.Command.{Command}
 use Rattle.isaprove.specs.declared.command.Command.TheVariants.{Axiom}
-use Rattle.isaprove.specs.Commands.{◌>>=◌, label_of, next_plain, next_quoted, next_word, next_axiom, axioms, and_axioms}
+use Rattle.isaprove.specs.Commands.{◌>>=◌, label_of, next_word, next_axiom, axioms, and_axioms}
 
 -- these commands before the others
 abbrev pub prepended : List Command → Option (List Command) → Option (List Command)

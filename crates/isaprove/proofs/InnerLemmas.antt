@@ -1,7 +1,6 @@
 -- One step of reading, at a depth that is left.
 use Rattle.std.proofs.Common.{◌≡◌, ◌≢◌, ◌-◌, refl, ap, arith}
-use Rattle.std.specs.Prelude.{ℕ, zero, suc, Bool, List, Option, None, codes}
-use Rattle.isa_terms.specs.Types.{Ty}
+use Rattle.std.specs.Prelude.{ℕ, zero, suc, Bool, List, None, codes}
 use Rattle.isa_terms.specs.Terms.{Tm}
 use Rattle.isaprove.specs.Commands.{◌>>=◌}
 use Rattle.isaprove.specs.Contexts.{ContextSeen}

@@ -1,6 +1,6 @@
 -- It is sound to print the result of a method, and a theorem.
 use Rattle.std.proofs.Common.{◌≡◌, ℕ, List, [], ◌∷◌, ◌++◌, ◌<◌, length, map, Bool, true, false, cond, Option, Some, None, Ok, Err, refl, sym, ap, subst, ◌∙◌, arith}
-use Rattle.std.specs.Prelude.{Result, IfSome}
+use Rattle.std.specs.Prelude.{IfSome}
 use Rattle.isa_terms.specs.Terms.{Tm, bare}
 use Rattle.isa_terms.specs.Generalize.{gen_tm, named_in}
 use Rattle.isa_kernel.specs.declared.axioms.NamedProp.{NamedProp}
@@ -14,11 +14,11 @@ use Rattle.isa_goal.specs.Goals.{Goals, Finishes}
 use Rattle.isa_goal.specs.Resolving.{results, base_of}
 use Rattle.isaprove.specs.declared.context.Fact.{Fact}
 use Rattle.isaprove.specs.declared.context.OpenLemma.{OpenLemma}
-use Rattle.isaprove.specs.declared.refusal.Refusal.TheVariants.{NotBuilt, NoResult, Memory}
+use Rattle.isaprove.specs.declared.refusal.Refusal.TheVariants.{NotBuilt, NoResult}
 use Rattle.isaprove.specs.Contexts.{ContextSeen, fact_of, judgment_name}
 use Rattle.isaprove.specs.Piece.{Shown, ShownState, ShownTheorem}
 use Rattle.isaprove.specs.Sound.{axioms_of, RestsOn, AreGrounded, IsGrounded, IsSoundShown}
-use Rattle.isaprove.specs.Steps.{Outcome, Unbuilt, Fails, Prints, is_matchable, first_state, lemma_with, with_state, with_fact, shown, matched_by, matched_with, matched, free_names, theorem_of_goal, proved, closed, finished_with, finished}
+use Rattle.isaprove.specs.Steps.{Unbuilt, Fails, Prints, is_matchable, first_state, lemma_with, with_state, with_fact, shown, matched_by, matched_with, matched, free_names, proved, closed, finished_with, finished}
 use Rattle.isaprove.specs.Taken.{FirstResult}
 use Rattle.isaprove.specs.Text.{state_text, theorem_text}
 use Rattle.isaprove.proofs.SoundLemmas.{derives_more, follows_more, rests_joined, fact_rests, grounded_append}

@@ -7,11 +7,10 @@ use Rattle.std.specs.Io.KnownBytes.{Appends}
 use Rattle.isa_io.specs.SinkSeen.{SinkSeen, WritesAll, WritesPrefix}
 use Rattle.isaprove.specs.Piece.{Piece, Shown, ToOut, ToErr, out_of, err_of, clip}
 use Rattle.isaprove.specs.Contexts.{ContextSeen}
-use Rattle.isaprove.specs.Part.{Part, End, Goes, Stops, after, next, go_on, pass, show, stop, at_line}
+use Rattle.isaprove.specs.Part.{Part, End, Goes, Stops, after, next, go_on, pass, stop, at_line}
 use Rattle.isaprove.specs.Run.{part_of, run_read, close_text, run_command, run_commands, run_line, run_lines, run_text}
 use Rattle.isaprove.specs.Words.{lines_of}
 use Rattle.isaprove.specs.declared.command.Command.{Command}
-use Rattle.isaprove.specs.declared.status.Status.{Status}
 use Rattle.isaprove.specs.Lines.{line_view}
 use Rattle.isaprove.specs.declared.words.Line.{Line}
 use Rattle.std.proofs.lemmas.List.{drop_more}

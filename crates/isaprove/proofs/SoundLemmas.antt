@@ -1,5 +1,5 @@
 -- What rests on declared axioms, as more are declared.
-use Rattle.std.proofs.Common.{◌≡◌, ℕ, List, [], ◌∷◌, ◌++◌, map, Bool, true, false, cond, Option, Some, None, Ok, Err, inl, inr, refl, sym, ap, subst, ◌∙◌, append-nil}
+use Rattle.std.proofs.Common.{◌≡◌, ℕ, List, [], ◌∷◌, ◌++◌, map, Bool, true, false, cond, Option, Some, None, inl, inr, refl, sym, ap, subst, ◌∙◌}
 use Rattle.std.specs.Prelude.{IfSome, option_map}
 use Rattle.std.specs.Map.{lookup}
 use Rattle.std.proofs.lemmas.List.{map-append}
@@ -9,7 +9,7 @@ use Rattle.isa_kernel.specs.declared.axioms.NamedProp.{NamedProp}
 use Rattle.isa_kernel.specs.declared.declarations.Declaration.{Declaration}
 use Rattle.isa_kernel.specs.Axioms.{propositions, has_axiom, missing_axioms, joined_bases}
 use Rattle.isa_kernel.specs.Derivation.{Derives, Member, Within}
-use Rattle.isa_kernel.specs.Theorem.{Theorem, IsDerived}
+use Rattle.isa_kernel.specs.Theorem.{Theorem}
 use Rattle.isa_kernel.specs.Theories.{axiom_prop, axiom_theorem, axioms_in}
 use Rattle.isa_kernel.proofs.Members.{Member-left, Within-append}
 use Rattle.isa_kernel.proofs.Rules.{tree_more}

@@ -1,5 +1,5 @@
 -- What a refused declaration means.
-use Rattle.std.proofs.Common.{◌≡◌, refl, sym, ap, subst, ◌∙◌, List}
+use Rattle.std.proofs.Common.{◌≡◌, sym, ap, subst, List}
 use Rattle.std.specs.Prelude.{Option, Some, None, Result, Ok, Err, IsErrAnd}
 use Rattle.isa_kernel.specs.declared.declarations.Declaration.{Declaration}
 use Rattle.isa_kernel.specs.declared.declarations.TheoryFail.{TheoryFail}

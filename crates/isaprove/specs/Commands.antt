@@ -1,9 +1,9 @@
 -- The commands of a line, by its words.
-use Rattle.std.specs.Prelude.{ℕ, ◌-◌, Bool, true, false, ◌||◌, ◌&&◌, if◌then◌else◌, List, [], ◌∷◌, ◌++◌, length, take, drop, nat_eq, nat_le, Option, Some, None, option_map, option_and_then, codes}
+use Rattle.std.specs.Prelude.{ℕ, ◌-◌, Bool, false, ◌||◌, ◌&&◌, if◌then◌else◌, List, [], ◌∷◌, length, take, drop, nat_eq, nat_le, Option, Some, None, option_map, option_and_then, codes}
 use Rattle.std.specs.List.{list_all}
 use Rattle.isa_terms.specs.Equal.{name_eq}
 use Rattle.isaprove.specs.declared.words.Word.{Word}
-use Rattle.isaprove.specs.declared.words.Word.TheVariants.{Plain, Quoted, Open}
+use Rattle.isaprove.specs.declared.words.Word.TheVariants.{Plain, Quoted}
 use Rattle.isaprove.specs.declared.command.Command.{Command}
 use Rattle.isaprove.specs.declared.command.Command.TheVariants.{Typedecl, Judgment, Consts, Axiom, Lemma, Match, Done}
 

@@ -1,7 +1,7 @@
 -- The types and propositions of quoted texts, by their words.
 -- A TYPE is NAMEs joined by `=>`. A TERM is a NAME with arguments, each a NAME or `(TERM)`.
 -- A PROP is TERMs or `(PROP)` joined by `==>` to the right; each TERM there gets the judgment.
-use Rattle.std.specs.Prelude.{ℕ, zero, suc, Bool, true, false, if◌then◌else◌, List, [], ◌∷◌, Option, Some, None, option_map, option_and_then, codes}
+use Rattle.std.specs.Prelude.{ℕ, zero, suc, Bool, true, false, if◌then◌else◌, List, [], ◌∷◌, Option, Some, None, option_map, codes}
 use Rattle.isa_terms.specs.Types.{Ty, TyCon, NoTys}
 use Rattle.isa_terms.specs.Terms.{Tm, Const, Free, Unknown, App}
 use Rattle.isa_terms.specs.Typing.{function_of}

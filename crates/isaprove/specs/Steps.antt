@@ -1,5 +1,5 @@
 -- What each command does.
-use Rattle.std.specs.Prelude.{ℕ, Bool, true, false, ◌&&◌, not, if◌then◌else◌, List, [], ◌∷◌, ◌++◌, Option, Some, None, option_map, option_and_then, is_some, is_none}
+use Rattle.std.specs.Prelude.{ℕ, Bool, true, false, ◌&&◌, not, if◌then◌else◌, List, [], ◌∷◌, ◌++◌, Option, Some, None, option_map, is_some}
 use Rattle.isa_terms.specs.Types.{Ty}
 use Rattle.isa_terms.specs.Terms.{Tm, Const, Free, Unknown, Bound, Abs, App}
 use Rattle.isa_terms.specs.Typing.{function_of}
@@ -14,9 +14,7 @@ use Rattle.isa_goal.specs.Goals.{Goals, started, has_parameter}
 use Rattle.isa_goal.specs.Names.{canon}
 use Rattle.isa_goal.specs.Resolving.{results, all_first_order}
 use Rattle.isa_goal.specs.declared.found.Found.{Found}
-use Rattle.isa_goal.specs.declared.found.Found.TheVariants.{Outside, Res}
-use Rattle.isaprove.specs.declared.context.Judgment.{Judgment}
-use Rattle.isaprove.specs.declared.context.Fact.{Fact}
+use Rattle.isa_goal.specs.declared.found.Found.TheVariants.{Res}
 use Rattle.isaprove.specs.declared.context.OpenLemma.{OpenLemma}
 use Rattle.isaprove.specs.declared.command.Command.{Command}
 use Rattle.isaprove.specs.declared.command.Command.TheVariants as command

@@ -1,4 +1,4 @@
-use Rattle.std.proofs.Common.{◌≡◌, ap, sym, subst, ◌∙◌}
+use Rattle.std.proofs.Common.{◌≡◌, ap, subst}
 use Rattle.std.specs.Prelude.{Some}
 use Rattle.isaprove.specs.Contexts.{ContextSeen}
 use Rattle.isaprove.specs.Sound.{IsGrounded}

@@ -1,4 +1,4 @@
-use Rattle.std.proofs.Common.{◌≡◌, ap, sym, subst, ◌∙◌}
+use Rattle.std.proofs.Common.{◌≡◌, ap, subst, ◌∙◌}
 use Rattle.std.specs.Prelude.{ℕ, List, Some}
 use Rattle.isa_terms.specs.Terms.{Tm}
 use Rattle.isaprove.specs.declared.context.Fact.{Fact}

@@ -1,4 +1,4 @@
-use Rattle.std.proofs.Common.{rules, subst, ap, sym, ◌∙◌}
+use Rattle.std.proofs.Common.{rules, subst, sym}
 use Rattle.isaprove.specs.Contexts.{ContextSeen}
 use Rattle.isaprove.specs.Sound.{RestsOn}
 use Rattle.isaprove.proofs.MatchLemmas.{grounded_state}
