@@ -12,6 +12,8 @@ pub mod Adequacy
 pub mod Loops
 pub mod Lists
 pub mod NoTypes
+pub mod LateLists
+pub mod LateSteps
 pub mod Once
 pub mod Entries
 pub mod Flexible

@@ -8,6 +8,9 @@ pub mod EquationCodes
 pub mod Spines
 pub mod Unification
 pub mod Steps
+pub mod StateCodes
+pub mod Late
+pub mod LateStates
 pub mod Calls
 pub mod Worked
 pub mod UnificationRows

@@ -2,7 +2,7 @@
 
 ghost use Rattle.std.specs.Prelude.{◌≡◌, [], map, IfOk};
 ghost use Rattle.isa_unify.specs.TypeUnification.{entries_under};
-ghost use Rattle.isa_unify.specs.Unification.{filled, filled_equation, filled_entry, filled_state, retyped, retyped_variable, retyped_equation, retyped_entry, retyped_state};
+ghost use Rattle.isa_unify.specs.Unification.{filled, filled_equation, filled_entry, retyped, retyped_variable, retyped_equation, retyped_entry, retyped_state};
 
 use crate::equation::{Binders, Equation, Equations, Variable};
 use crate::progress::State;
@@ -18,7 +18,8 @@ fn filled(alloc: Global, terms: &[TermEntry], t: &Term) -> Result<Term, AllocErr
     norm(alloc, &instance)
 }
 
-fn filled_equation(
+/// The equation with terms for unknowns, in normal form.
+pub fn filled_equation(
     alloc: Global,
     terms: &[TermEntry],
     equation: &Equation,
@@ -32,21 +33,8 @@ fn filled_equation(
     })
 }
 
-fn filled_equations(
-    alloc: Global,
-    terms: &[TermEntry],
-    equations: &Equations,
-) -> Result<Equations, AllocError>
-    ensures { IfOk result (λ r. r ≡ map (filled_equation terms.now) equations.now) }
-{
-    let mut done = Vec::new(alloc);
-    for equation in equations.last_first() {
-        done.push(filled_equation(alloc, terms, equation)?)?;
-    }
-    Ok(Equations::of_last_first(done))
-}
-
-fn filled_entries(
+/// The entries with terms for unknowns, in normal form.
+pub fn filled_entries(
     alloc: Global,
     terms: &[TermEntry],
     entries: &[TermEntry],
@@ -63,19 +51,6 @@ fn filled_entries(
         })?;
     }
     Ok(done)
-}
-
-/// The state with terms for unknowns.
-pub fn filled_state(alloc: Global, terms: &[TermEntry], state: State) -> Result<State, AllocError>
-    ensures { IfOk result (λ r. r ≡ filled_state terms.now state) }
-{
-    let equations = filled_equations(alloc, terms, &state.equations)?;
-    let terms = filled_entries(alloc, terms, state.terms.as_slice())?;
-    Ok(State {
-        equations,
-        terms,
-        ..state
-    })
 }
 
 /// The term with types for its type unknowns.
@@ -103,7 +78,8 @@ fn retyped_binders(
     Binders::of(alloc, done)
 }
 
-fn retyped_equation(
+/// The equation with types for type unknowns.
+pub fn retyped_equation(
     alloc: Global,
     types: &[TypeEntry],
     equation: &Equation,
@@ -131,7 +107,8 @@ fn retyped_equations(
     Ok(Equations::of_last_first(done))
 }
 
-fn retyped_types(
+/// The entries for type unknowns under others.
+pub fn retyped_types(
     alloc: Global,
     types: &[TypeEntry],
     entries: &[TypeEntry],
@@ -149,7 +126,8 @@ fn retyped_types(
     Ok(done)
 }
 
-fn retyped_entries(
+/// The entries with types for type unknowns.
+pub fn retyped_entries(
     alloc: Global,
     types: &[TypeEntry],
     entries: &[TermEntry],

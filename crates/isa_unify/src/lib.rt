@@ -8,6 +8,7 @@ mod clashing;
 mod equation;
 mod filling;
 mod fresh;
+mod late;
 mod laws;
 mod lookup;
 mod matching;

@@ -1,4 +1,5 @@
 use crate::equation::{Binders, Equations};
+use crate::late::Late;
 use crate::numbers::Numbers;
 use isa_terms::{Name, TermEntries, Typ, TypeEntries};
 
@@ -51,7 +52,7 @@ pub enum Answer {
 /// What a step leads to.
 #[derive(Drop)]
 pub enum Progress {
-    Going(State),
+    Going(Late),
     Ended(Answer),
 }
 

@@ -3,12 +3,12 @@
 ghost use Rattle.std.specs.Prelude.{◌≡◌, ◌++◌, IfOk};
 ghost use Rattle.isa_unify.specs.Spines.{head_of, args_of, distinct_bounds};
 ghost use Rattle.isa_unify.specs.Steps.{taken, prune};
-ghost use Rattle.isa_unify.specs.Unification.{agreeing, assigned, renewed, after_new, with_first, both_become, solve, solve_same, solve_two, solve_unknowns, flexible_step, after_types, front_step, parts_at, unify_step, unified};
+ghost use Rattle.isa_unify.specs.Unification.{agreeing, assigned, renewed, both_become, solve, solve_same, solve_two, solve_unknowns, flexible_step, after_types, front_step, parts_at, unify_step, unified};
 
 use crate::abstractions::{abstracted, over, range_behind};
 use crate::clashing::unified_types;
 use crate::equation::{Binders, Equation};
-use crate::filling::{filled_state, retyped_state};
+use crate::late::Late;
 use crate::numbers::Numbers;
 use crate::parts::parts_at;
 use crate::places::{Pattern, first_place, shared_of};
@@ -32,26 +32,26 @@ fn entry_of(solved: &Pattern<'_>, term: Term) -> Result<TermEntry, AllocError>
 /// The unknown becomes the term.
 fn assigned(
     alloc: Global,
-    state: State,
+    state: Late,
     solved: &Pattern<'_>,
     term: Term,
-) -> Result<State, AllocError>
+) -> Result<Late, AllocError>
     ensures { IfOk result (λ s. s ≡ assigned state solved.now.name.now solved.now.number solved.now.typ.now term) }
 {
     let mut entries = TermEntries::new(alloc);
     entries.push(entry_of(solved, term)?)?;
-    filled_state(alloc, entries.as_slice(), state)
+    state.filled(entries)
 }
 
 /// The unknown becomes the new one of that number over the variables that it keeps.
 fn renewed(
     alloc: Global,
-    state: State,
+    state: Late,
     binders: &Binders,
     solved: &Pattern<'_>,
     new: u32,
     kept: &[u32],
-) -> Result<State, AllocError>
+) -> Result<Late, AllocError>
     ensures { IfOk result (λ s. s ≡ renewed state binders.now solved.now.name.now solved.now.number solved.now.typ.now solved.now.variables.now new kept.now) }
 {
     let range = range_behind(solved.variables, solved.typ);
@@ -60,51 +60,10 @@ fn renewed(
     assigned(alloc, state, solved, term)
 }
 
-/// The state after the number of a new unknown was taken.
-fn after_new(state: State) -> Result<State, AllocError>
-    ensures { IfOk result (λ s. s ≡ after_new state) }
-{
-    let State {
-        equations,
-        types,
-        terms,
-        next,
-        left,
-    } = state;
-    Ok(State {
-        equations,
-        types,
-        terms,
-        next: next.checked_add(1).ok_or(AllocError)?,
-        left: left.saturating_sub(1),
-    })
-}
-
-/// The state with the equation before the others.
-fn with_first(state: State, equation: &Equation) -> Result<State, AllocError>
-    ensures { IfOk result (λ s. s ≡ with_first equation.now state) }
-{
-    let State {
-        mut equations,
-        types,
-        terms,
-        next,
-        left,
-    } = state;
-    equations.put_first(equation.copy()?)?;
-    Ok(State {
-        equations,
-        types,
-        terms,
-        next,
-        left,
-    })
-}
-
 /// An unknown of the term loses variables, and the equation comes again.
 fn prune(
     alloc: Global,
-    state: State,
+    state: Late,
     equation: &Equation,
     binders: &Binders,
     pruned: &Pattern<'_>,
@@ -112,18 +71,19 @@ fn prune(
 ) -> Result<Progress, AllocError>
     ensures { IfOk result (λ p. p ≡ taken (prune state equation.now binders.now pruned.now.name.now pruned.now.number pruned.now.typ.now pruned.now.variables.now kept.now)) }
 {
-    if state.left == 0 {
+    if state.left() == 0 {
         return Ok(Progress::Ended(Answer::Outside));
     }
-    let new = state.next;
-    let state = with_first(after_new(state)?, equation)?;
+    let new = state.next();
+    let mut state = state.after_new()?;
+    state.put_first(equation.copy()?)?;
     Ok(Progress::Going(renewed(alloc, state, binders, pruned, new, kept)?))
 }
 
 /// An unknown on variables against a rigid term.
 fn solve(
     alloc: Global,
-    state: State,
+    state: Late,
     equation: &Equation,
     solved: &Pattern<'_>,
     t: &Term,
@@ -167,7 +127,7 @@ fn agreeing(left: &[u32], right: &[u32], mut done: Numbers) -> Result<Numbers, A
 /// An unknown on variables against itself on others.
 fn solve_same(
     alloc: Global,
-    state: State,
+    state: Late,
     equation: &Equation,
     solved: &Pattern<'_>,
     others: &[u32],
@@ -178,11 +138,11 @@ fn solve_same(
     if kept.len() == solved.variables.len() {
         return Ok(Progress::Going(state));
     }
-    if state.left == 0 {
+    if state.left() == 0 {
         return Ok(Progress::Ended(Answer::Outside));
     }
-    let new = state.next;
-    let state = after_new(state)?;
+    let new = state.next();
+    let state = state.after_new()?;
     Ok(Progress::Going(renewed(
         alloc,
         state,
@@ -196,35 +156,35 @@ fn solve_same(
 /// Two unknowns become abstractions of one term.
 fn both_become(
     alloc: Global,
-    state: State,
+    state: Late,
     equation: &Equation,
     left: &Pattern<'_>,
     right: &Pattern<'_>,
     shared: &Term,
-) -> Result<State, AllocError>
+) -> Result<Late, AllocError>
     ensures { IfOk result (λ s. s ≡ both_become state equation.now left.now.name.now left.now.number left.now.typ.now left.now.variables.now right.now.name.now right.now.number right.now.typ.now right.now.variables.now shared.now) }
 {
     let binders = &equation.binders;
     let mut entries = TermEntries::new(alloc);
     entries.push(entry_of(left, abstracted(alloc, binders, left.variables, shared)?)?)?;
     entries.push(entry_of(right, abstracted(alloc, binders, right.variables, shared)?)?)?;
-    filled_state(alloc, entries.as_slice(), state)
+    state.filled(entries)
 }
 
 /// An unknown on variables against another one.
 fn solve_two(
     alloc: Global,
-    state: State,
+    state: Late,
     equation: &Equation,
     left: &Pattern<'_>,
     right: &Pattern<'_>,
 ) -> Result<Progress, AllocError>
     ensures { IfOk result (λ p. p ≡ taken (solve_two state equation.now left.now.name.now left.now.number left.now.typ.now left.now.variables.now right.now.name.now right.now.number right.now.typ.now right.now.variables.now)) }
 {
-    if state.left == 0 {
+    if state.left() == 0 {
         return Ok(Progress::Ended(Answer::Outside));
     }
-    let new = state.next;
+    let new = state.next();
     let kept = shared_of(alloc, right.variables, left.variables)?;
     let range = range_behind(left.variables, left.typ);
     let shared = over(
@@ -235,14 +195,14 @@ fn solve_two(
         kept.as_slice(),
         range,
     )?;
-    let state = after_new(state)?;
+    let state = state.after_new()?;
     Ok(Progress::Going(both_become(alloc, state, equation, left, right, &shared)?))
 }
 
 /// Two unknowns on variables.
 fn solve_unknowns(
     alloc: Global,
-    state: State,
+    state: Late,
     equation: &Equation,
     left: &Pattern<'_>,
     right: &Pattern<'_>,
@@ -265,7 +225,7 @@ fn variables_of(alloc: Global, t: &Term) -> Result<Option<Numbers>, AllocError>
 }
 
 /// An equation with a flexible side.
-fn flexible_step(alloc: Global, state: State, equation: &Equation) -> Result<Progress, AllocError>
+fn flexible_step(alloc: Global, state: Late, equation: &Equation) -> Result<Progress, AllocError>
     ensures { IfOk result (λ p. p ≡ taken (flexible_step state equation.now (head_of equation.now.left) (head_of equation.now.right))) }
 {
     match (
@@ -322,21 +282,21 @@ fn flexible_step(alloc: Global, state: State, equation: &Equation) -> Result<Pro
 }
 
 /// The equation before those of the state.
-fn front_step(alloc: Global, mut state: State, equation: &Equation) -> Result<Progress, AllocError>
+fn front_step(alloc: Global, mut state: Late, equation: &Equation) -> Result<Progress, AllocError>
     ensures { IfOk result (λ p. p ≡ taken (front_step state equation.now (parts_at equation.now.binders equation.now.left equation.now.right))) }
 {
     match parts_at(alloc, &equation.binders, &equation.left, &equation.right)? {
         Parts::Flexible => flexible_step(alloc, state, equation),
         Parts::Clash => Ok(Progress::Ended(Answer::No)),
         Parts::Into(parts) => {
-            state.equations.put_all_first(parts)?;
+            state.put_all_first(parts)?;
             Ok(Progress::Going(state))
         }
         Parts::Heads(left, right, parts) => {
-            state.equations.put_all_first(parts)?;
+            state.put_all_first(parts)?;
             match unified_types(alloc, left, right)? {
                 None => Ok(Progress::Ended(Answer::No)),
-                Some(types) => Ok(Progress::Going(retyped_state(alloc, types.as_slice(), state)?)),
+                Some(types) => Ok(Progress::Going(state.retyped(alloc, types.as_slice())?)),
             }
         }
     }
@@ -344,21 +304,12 @@ fn front_step(alloc: Global, mut state: State, equation: &Equation) -> Result<Pr
 
 /// Takes the first equation, until none is left.
 #[tactic(auto, unfolding(crate::specs::Unification::unify_step))]
-fn advance(alloc: Global, mut state: State) -> Result<Progress, AllocError>
+fn advance(alloc: Global, mut state: Late) -> Result<Progress, AllocError>
     ensures { IfOk result (λ p. p ≡ taken (unify_step state)) }
 {
-    match state.equations.take_first() {
+    match state.take_first(alloc)? {
         Some(equation) => front_step(alloc, state, &equation),
-        None => {
-            let State {
-                equations: _,
-                types,
-                terms,
-                next,
-                left: _,
-            } = state;
-            Ok(Progress::Ended(Answer::Yes(types, terms, next)))
-        }
+        None => Ok(Progress::Ended(state.answer(alloc)?)),
     }
 }
 
@@ -367,7 +318,7 @@ fn advance(alloc: Global, mut state: State) -> Result<Progress, AllocError>
 pub fn unified(alloc: Global, start: State) -> Result<Answer, AllocError>
     ensures { IfOk result (λ a. a ≡ unified start) }
 {
-    let mut state = start;
+    let mut state = Late::of(alloc, start)?;
     'steps: loop {
         match advance(alloc, state)? {
             Progress::Going(next) => state = next,
