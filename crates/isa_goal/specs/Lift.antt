@@ -6,12 +6,8 @@ use Rattle.isa_terms.specs.Typing.{function_of}
 use Rattle.isa_terms.specs.Replace.{raise}
 use Rattle.isa_kernel.specs.Logic.{prop, imp, all}
 use Rattle.isa_kernel.specs.Theorem.{Theorem}
+use Rattle.isa_goal.specs.declared.lift.Parameter.{Parameter}
 use Rattle.isa_goal.specs.Goals.{implies, premises, conclusion}
-
--- a parameter's name and type
-pub record Parameter : Type 0 where
-  pub name : List ℕ
-  pub typ : Ty
 
 -- `!!x1 .. xk. P`
 abbrev pub quantified : List Parameter → Tm → Tm

@@ -1,0 +1,235 @@
+// How each kind of method expression starts on a state, at a number: the frames that it pushes.
+#![tactic(auto)]
+
+ghost use Rattle.std.specs.Prelude.{◌≡◌, IfOk};
+ghost use Rattle.isa_seq.specs.Tactics.{trace};
+ghost use Rattle.isa_seq.specs.Work.{cost};
+ghost use Rattle.isa_seq.specs.Steps.{Starts};
+
+use crate::event::Event;
+use crate::frame::{Frame, Place};
+use crate::number::Number;
+use crate::prims::Prims;
+use crate::queue::Queue;
+use crate::step::Frames;
+use crate::tac::{Tac, TacNode};
+use std::alloc::{AllocError, Global};
+
+/// The state itself if it has no subgoals.
+pub fn start_solved<R: Prims>(
+    prims: &R,
+    frames: &mut Frames<R>,
+    state: R::State,
+    number: usize,
+) -> Result<Option<Event<R::State>>, AllocError>
+    ensures { let m = R.meaning prims.now in IfOk result (Starts m (R.rest prims.now) (R.fits prims.now) frames.old.items frames.new.items (trace m (TacNode.Solved) state number) (cost m (TacNode.Solved) state number)) }
+{
+    if prims.subgoals(&state) == 0 {
+        return Ok(Some(Event::Res(state)));
+    }
+    Ok(None)
+}
+
+/// A run of a primitive.
+pub fn start_goal<R: Prims>(
+    prims: &R,
+    alloc: Global,
+    frames: &mut Frames<R>,
+    prim: &R::Prim,
+    state: R::State,
+    number: usize,
+) -> Result<Option<Event<R::State>>, AllocError>
+    ensures { let m = R.meaning prims.now in IfOk result (Starts m (R.rest prims.now) (R.fits prims.now) frames.old.items frames.new.items (trace m (TacNode.Goal prim.now) state number) (cost m (TacNode.Goal prim.now) state number)) }
+{
+    let run = prims.begin(alloc, prim, &state, number)?;
+    frames.push(Frame::Running(run))?;
+    Ok(None)
+}
+
+/// The second on each result of the first.
+pub fn start_then<R: Prims>(
+    _prims: &R,
+    frames: &mut Frames<R>,
+    first: &Tac<R::Prim>,
+    next: &Tac<R::Prim>,
+    state: R::State,
+    number: usize,
+) -> Result<Option<Event<R::State>>, AllocError>
+    ensures { let m = R.meaning _prims.now in IfOk result (Starts m (R.rest _prims.now) (R.fits _prims.now) frames.old.items frames.new.items (trace m (TacNode.Then first.now next.now) state number) (cost m (TacNode.Then first.now next.now) state number)) }
+{
+    frames.push(Frame::Each(next.at(number)?))?;
+    frames.push(Frame::Call(first.at(number)?, state))?;
+    Ok(None)
+}
+
+/// The first, and the second behind it as the alternative.
+pub fn start_or_else<R: Prims>(
+    prims: &R,
+    alloc: Global,
+    frames: &mut Frames<R>,
+    first: &Tac<R::Prim>,
+    other: &Tac<R::Prim>,
+    state: R::State,
+    number: usize,
+) -> Result<Option<Event<R::State>>, AllocError>
+    ensures { let m = R.meaning prims.now in IfOk result (Starts m (R.rest prims.now) (R.fits prims.now) frames.old.items frames.new.items (trace m (TacNode.OrElse first.now other.now) state number) (cost m (TacNode.OrElse first.now other.now) state number)) }
+{
+    let copy = prims.copy(alloc, &state)?;
+    frames.push(Frame::Else(other.at(number)?, copy))?;
+    frames.push(Frame::Call(first.at(number)?, state))?;
+    Ok(None)
+}
+
+/// The first, and the second behind it.
+pub fn start_append<R: Prims>(
+    prims: &R,
+    alloc: Global,
+    frames: &mut Frames<R>,
+    first: &Tac<R::Prim>,
+    other: &Tac<R::Prim>,
+    state: R::State,
+    number: usize,
+) -> Result<Option<Event<R::State>>, AllocError>
+    ensures { let m = R.meaning prims.now in IfOk result (Starts m (R.rest prims.now) (R.fits prims.now) frames.old.items frames.new.items (trace m (TacNode.Append first.now other.now) state number) (cost m (TacNode.Append first.now other.now) state number)) }
+{
+    let copy = prims.copy(alloc, &state)?;
+    frames.push(Frame::Call(other.at(number)?, copy))?;
+    frames.push(Frame::Call(first.at(number)?, state))?;
+    Ok(None)
+}
+
+/// The expression, and the state itself behind it as the alternative.
+pub fn start_try<R: Prims>(
+    prims: &R,
+    alloc: Global,
+    frames: &mut Frames<R>,
+    body: &Tac<R::Prim>,
+    state: R::State,
+    number: usize,
+) -> Result<Option<Event<R::State>>, AllocError>
+    ensures { let m = R.meaning prims.now in IfOk result (Starts m (R.rest prims.now) (R.fits prims.now) frames.old.items frames.new.items (trace m (TacNode.Try body.now) state number) (cost m (TacNode.Try body.now) state number)) }
+{
+    let copy = prims.copy(alloc, &state)?;
+    frames.push(Frame::Else(body.to(Place::Downward(0))?, copy))?;
+    frames.push(Frame::Call(body.at(number)?, state))?;
+    Ok(None)
+}
+
+/// The expression at the numbers from 1 up, as long as there is no result.
+pub fn start_first_goal<R: Prims>(
+    prims: &R,
+    frames: &mut Frames<R>,
+    body: &Tac<R::Prim>,
+    state: R::State,
+    number: usize,
+) -> Result<Option<Event<R::State>>, AllocError>
+    ensures { let m = R.meaning prims.now in IfOk result (Starts m (R.rest prims.now) (R.fits prims.now) frames.old.items frames.new.items (trace m (TacNode.FirstGoal body.now) state number) (cost m (TacNode.FirstGoal body.now) state number)) }
+{
+    let last = prims.subgoals(&state);
+    frames.push(Frame::Call(body.to(Place::Upward(1, last))?, state))?;
+    Ok(None)
+}
+
+/// The expression at each number, from the last down.
+pub fn start_all_goals<R: Prims>(
+    prims: &R,
+    frames: &mut Frames<R>,
+    body: &Tac<R::Prim>,
+    state: R::State,
+    number: usize,
+) -> Result<Option<Event<R::State>>, AllocError>
+    ensures { let m = R.meaning prims.now in IfOk result (Starts m (R.rest prims.now) (R.fits prims.now) frames.old.items frames.new.items (trace m (TacNode.AllGoals body.now) state number) (cost m (TacNode.AllGoals body.now) state number)) }
+{
+    let last = prims.subgoals(&state);
+    frames.push(Frame::Call(body.to(Place::Downward(last))?, state))?;
+    Ok(None)
+}
+
+/// Rounds of the expression's first results.
+pub fn start_repeat_determ<R: Prims>(
+    _prims: &R,
+    alloc: Global,
+    frames: &mut Frames<R>,
+    body: &Tac<R::Prim>,
+    state: R::State,
+    number: usize,
+) -> Result<Option<Event<R::State>>, AllocError>
+    ensures { let m = R.meaning _prims.now in IfOk result (Starts m (R.rest _prims.now) (R.fits _prims.now) frames.old.items frames.new.items (trace m (TacNode.RepeatDeterm body.now) state number) (cost m (TacNode.RepeatDeterm body.now) state number)) }
+{
+    let once = Tac::new(alloc, TacNode::Determ(body.copy()?))?;
+    frames.push(Frame::Call(once.to(Place::Rounds(number))?, state))?;
+    Ok(None)
+}
+
+/// The expression, under a frame that ends it after its first result.
+pub fn start_determ<R: Prims>(
+    _prims: &R,
+    frames: &mut Frames<R>,
+    body: &Tac<R::Prim>,
+    state: R::State,
+    number: usize,
+) -> Result<Option<Event<R::State>>, AllocError>
+    ensures { let m = R.meaning _prims.now in IfOk result (Starts m (R.rest _prims.now) (R.fits _prims.now) frames.old.items frames.new.items (trace m (TacNode.Determ body.now) state number) (cost m (TacNode.Determ body.now) state number)) }
+{
+    frames.push(Frame::First)?;
+    frames.push(Frame::Call(body.at(number)?, state))?;
+    Ok(None)
+}
+
+/// A search in which the state alone waits.
+pub fn start_best_first<R: Prims>(
+    prims: &R,
+    alloc: Global,
+    frames: &mut Frames<R>,
+    body: &Tac<R::Prim>,
+    state: R::State,
+    number: usize,
+) -> Result<Option<Event<R::State>>, AllocError>
+    ensures { let m = R.meaning prims.now in IfOk result (Starts m (R.rest prims.now) (R.fits prims.now) frames.old.items frames.new.items (trace m (TacNode.BestFirst body.now) state number) (cost m (TacNode.BestFirst body.now) state number)) }
+{
+    let mut queue = Queue::new(alloc);
+    queue.push(prims.measure(&state), state)?;
+    frames.push(Frame::Best(body.copy()?, number, queue))?;
+    Ok(None)
+}
+
+/// The expression, under a frame that drops what is the same as the state.
+pub fn start_changed<R: Prims>(
+    prims: &R,
+    alloc: Global,
+    frames: &mut Frames<R>,
+    body: &Tac<R::Prim>,
+    state: R::State,
+    number: usize,
+) -> Result<Option<Event<R::State>>, AllocError>
+    ensures { let m = R.meaning prims.now in IfOk result (Starts m (R.rest prims.now) (R.fits prims.now) frames.old.items frames.new.items (trace m (TacNode.Changed body.now) state number) (cost m (TacNode.Changed body.now) state number)) }
+{
+    let copy = prims.copy(alloc, &state)?;
+    frames.push(Frame::Unlike(copy))?;
+    frames.push(Frame::Call(body.at(number)?, state))?;
+    Ok(None)
+}
+
+/// The expression on the subgoal alone, under a frame that puts it back. Nothing if there is no such subgoal.
+pub fn start_select<R: Prims>(
+    prims: &R,
+    alloc: Global,
+    frames: &mut Frames<R>,
+    body: &Tac<R::Prim>,
+    state: R::State,
+    number: usize,
+) -> Result<Option<Event<R::State>>, AllocError>
+    ensures { let m = R.meaning prims.now in IfOk result (Starts m (R.rest prims.now) (R.fits prims.now) frames.old.items frames.new.items (trace m (TacNode.Select body.now) state number) (cost m (TacNode.Select body.now) state number)) }
+{
+    if number == 0 {
+        return Ok(None);
+    }
+    let last = prims.subgoals(&state);
+    if number > last {
+        return Ok(None);
+    }
+    let focused = prims.focus(alloc, &state, number)?;
+    frames.push(Frame::PutBack(state, Number::new(number)))?;
+    frames.push(Frame::Call(body.at(1)?, focused))?;
+    Ok(None)
+}
