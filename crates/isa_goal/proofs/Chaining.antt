@@ -1,5 +1,5 @@
 -- What follows from what follows.
-use Rattle.std.proofs.Common.{◌≡◌, ◌⊎◌, inl, inr, List, [], ◌∷◌, ◌++◌, map, Bool, true, false, ◌&&◌, refl, sym, ap, ◌∙◌, subst}
+use Rattle.std.proofs.Common.{◌≡◌, ◌⊎◌, inl, inr, List, [], ◌∷◌, ◌++◌, map, Bool, true, false, ◌&&◌, Option, Some, refl, sym, ap, ◌∙◌, subst}
 use Rattle.isa_terms.specs.Types.{Ty}
 use Rattle.isa_terms.specs.Terms.{Tm, bare}
 use Rattle.isa_terms.specs.Equal.{ty_eq}
@@ -102,3 +102,6 @@ pub renamed_normal : (s : Goals) → IsStanding s → IsNormalState (renamed s)
 renamed_normal s d =
     let p = derived_propositions s.subgoals s.goal d.derivation in
     record { subgoals = map_normal (naming s) s.subgoals (naming_keeps s) p.0; goal = instance_normal (naming s) s.goal (naming_keeps s) p.1 }
+
+pub canon_normal : (s t : Goals) → IsStanding s → Some (canon s) ≡ Some t → IsNormalState t
+canon_normal s t d e = let q : canon s ≡ t = cc (e) in subst (λ x. IsNormalState x) q (renamed_normal s d)

@@ -218,3 +218,7 @@ reduces_follows ax s t u w d f = record {
       (from_instance ax f.inst t.subgoals a f.kept (of_each _ s.subgoals d.subgoals a m))
       (map_member (instance_of f.inst) (λ p. From ax u.subgoals p) t.subgoals (of_each _ t.subgoals f.subgoals)));
 }
+
+-- a normal state follows from itself
+pub follows_itself : (s : Goals) → IsStanding s → IsNormalState s → Follows [] s s
+follows_itself s d n = reduced_follows [] s s n (reduces_itself s d)

@@ -2,7 +2,7 @@ use Rattle.std.proofs.Common.{rules, ◌≡◌, Some, subst}
 use Rattle.isa_goal.specs.Goals.{Goals, Proves}
 use Rattle.isa_goal.specs.Steps.{rotated}
 use Rattle.isa_goal.proofs.Rotating.{put_back_proves, put_back_state}
-use Rattle.isa_goal.proofs.state.State.put_back.Goals as goal
+use Rattle.isa_goal.proofs.draft.Draft.put_back.Goals as goal
 
 pub invariant_of-result : goal.invariant_of-result
 invariant_of-result c =

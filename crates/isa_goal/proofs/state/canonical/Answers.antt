@@ -1,0 +1,7 @@
+use Rattle.std.proofs.Common.{rules, ◌≡◌, Some}
+use Rattle.isa_goal.specs.Names.{canon}
+use Rattle.isa_goal.proofs.Chaining.{canon_normal}
+use Rattle.isa_goal.proofs.state.canonical.Goals as goal
+
+pub invariant_of-result : goal.invariant_of-result
+invariant_of-result c = canon_normal c.args.draft.now c.in_ok-form.form c.is_standing.ensures (search rules)
