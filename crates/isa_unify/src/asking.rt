@@ -1,39 +1,14 @@
 //! The unknowns and type unknowns that are asked for.
 
-ghost use Rattle.std.specs.Prelude.{◌≡◌, IfOk, OnOk, is_some};
+ghost use Rattle.std.specs.Prelude.{◌≡◌, OnOk};
 ghost use Rattle.isa_terms.specs.Types.{tys_of};
-ghost use Rattle.isa_terms.specs.Instance.{find_type, find_term};
 ghost use Rattle.isa_unify.specs.Unification.{with_type_unknowns, with_all_type_unknowns, with_types, with_unknowns};
 
 use isa_terms::{
-    Name, Term, TermEntries, TermEntry, TermNode, Typ, TypNode, TypeEntries, TypeEntry, same_typ,
+    Term, TermEntries, TermEntry, TermNode, Typ, TypNode, TypeEntries, TypeEntry, find_term,
+    find_type,
 };
 use std::alloc::{AllocError, Global};
-
-/// Whether the type unknown has an entry.
-fn has_type(name: &Name, number: u32, entries: &[TypeEntry]) -> bool
-    ensures { result ≡ is_some (find_type name.now number entries.now) }
-{
-    match entries.split_first() {
-        None => false,
-        Some((first, rest)) => {
-            (name.same(&first.name) && number == first.number) || has_type(name, number, rest)
-        }
-    }
-}
-
-/// Whether the unknown has an entry.
-fn has_term(name: &Name, number: u32, typ: &Typ, entries: &[TermEntry]) -> bool
-    ensures { result ≡ is_some (find_term name.now number typ.now entries.now) }
-{
-    match entries.split_first() {
-        None => false,
-        Some((first, rest)) => {
-            (name.same(&first.name) && number == first.number && same_typ(typ, &first.typ))
-                || has_term(name, number, typ, rest)
-        }
-    }
-}
 
 /// Puts the type unknowns that have no entry yet behind the others, each as itself.
 #[cycle(asked)]
@@ -44,7 +19,7 @@ fn add_type_unknowns(typ: &Typ, entries: &mut TypeEntries) -> Result<(), AllocEr
         TypNode::Con(_, args) => add_all_type_unknowns(args.as_slice(), entries),
         TypNode::Fixed(_) => Ok(()),
         TypNode::Unknown(name, number) => {
-            if !has_type(name, *number, entries.as_slice()) {
+            if find_type(name, *number, entries.as_slice()).is_none() {
                 entries.push(TypeEntry {
                     name: name.copy()?,
                     number: *number,
@@ -96,7 +71,7 @@ pub fn add_unknowns(t: &Term, entries: &mut TermEntries) -> Result<(), AllocErro
     match t.view() {
         TermNode::Const(_, _) | TermNode::Free(_, _) | TermNode::Bound(_) => Ok(()),
         TermNode::Unknown(name, number, typ) => {
-            if !has_term(name, *number, typ, entries.as_slice()) {
+            if find_term(name, *number, typ, entries.as_slice()).is_none() {
                 entries.push(TermEntry {
                     name: name.copy()?,
                     number: *number,

@@ -1,11 +1,10 @@
 //! The binders round a place of a term.
 
 ghost use Rattle.std.specs.Prelude.{◌≡◌, slice_get, option_map, IfOk};
-ghost use Rattle.isa_terms.specs.Norm.{loose, eta};
 ghost use Rattle.isa_unify.specs.Matching.{Binder, over, is_closed, solution};
 ghost use Rattle.isa_unify.specs.BinderLists.{binders_in, binder_of};
 
-use isa_terms::{Name, Term, TermNode, Typ, replaced};
+use isa_terms::{Name, Term, TermNode, Typ, abstraction};
 use std::alloc::{AllocError, Global};
 
 /// A binder's name and type.
@@ -78,32 +77,6 @@ pub fn is_closed(depth: u32, t: &Term) -> Result<bool, AllocError>
         TermNode::Abs(_, _, body) => is_closed(depth.checked_add(1).ok_or(AllocError)?, body),
         TermNode::App(fun, arg) => Ok(is_closed(depth, fun)? && is_closed(depth, arg)?),
     }
-}
-
-/// Whether the variable `depth` of as many binders is in the term.
-fn is_loose(depth: u32, t: &Term) -> Result<bool, AllocError>
-    ensures { IfOk result (λ r. r ≡ loose depth t.now) }
-{
-    match t.view() {
-        TermNode::Const(_, _) | TermNode::Free(_, _) | TermNode::Unknown(_, _, _) => Ok(false),
-        TermNode::Bound(number) => Ok(*number == depth),
-        TermNode::Abs(_, _, body) => is_loose(depth.checked_add(1).ok_or(AllocError)?, body),
-        TermNode::App(fun, arg) => Ok(is_loose(depth, fun)? || is_loose(depth, arg)?),
-    }
-}
-
-/// The abstraction over the body, eta short.
-pub fn abstraction(alloc: Global, name: &Name, typ: &Typ, body: Term) -> Result<Term, AllocError>
-    ensures { IfOk result (λ t. t ≡ eta name.now typ.now body) }
-{
-    if let TermNode::App(fun, arg) = body.view() {
-        if let TermNode::Bound(0) = arg.view() {
-            if !is_loose(0, fun)? {
-                return replaced(alloc, fun, arg);
-            }
-        }
-    }
-    Term::new(alloc, TermNode::Abs(name.copy()?, typ.copy()?, body))
 }
 
 /// The abstraction of t over the variables with these numbers, where there are such.

@@ -10,7 +10,6 @@ mod filling;
 mod fresh;
 mod late;
 mod laws;
-mod lookup;
 mod matching;
 mod numbers;
 mod parts;

@@ -9,10 +9,9 @@ ghost use Rattle.isa_unify.specs.Matching.{ty_matched, tys_matched, flexible, bo
 ghost use Rattle.isa_unify.specs.BinderLists.{binders_in, flexible_of};
 
 use crate::binders::{Binders, is_closed, solution};
-use crate::lookup::{term_for, type_for};
 use isa_terms::{
-    IllTyped, Inst, Name, Term, TermNode, Typ, TypNode, inst_typ, raised, same_term, same_typ,
-    type_of,
+    IllTyped, Inst, Name, Term, TermNode, Typ, TypNode, find_term, find_type, inst_typ, raised,
+    same_term, same_typ, type_of,
 };
 use std::alloc::{AllocError, Global};
 
@@ -32,7 +31,7 @@ fn extend_types(alloc: Global, inst: &mut Inst, typ: &Typ, wanted: &Typ) -> Resu
 {
     match (typ.view(), wanted.view()) {
         (TypNode::Unknown(name, number), _) => {
-            if let Some(found) = type_for(name, *number, inst.types().as_slice()) {
+            if let Some(found) = find_type(name, *number, inst.types().as_slice()) {
                 return Ok(same_typ(found, wanted));
             }
             inst.put_type(alloc, name.copy()?, *number, wanted.copy()?)?;
@@ -93,7 +92,7 @@ fn flexible<'a>(alloc: Global, t: &'a Term) -> Result<Option<Spine<'a>>, AllocEr
 fn bind(alloc: Global, inst: &mut Inst, spine: &Spine<'_>, term: Term) -> Result<bool, AllocError>
     ensures { IfOk result (λ yes. bound_to (find_term spine.now.name.now spine.now.number spine.now.typ.now inst.old.terms) inst.old (flexible_of spine.now) term ≡ cond yes (Some inst.new) None) }
 {
-    if let Some(found) = term_for(spine.name, spine.number, spine.typ, inst.terms().as_slice()) {
+    if let Some(found) = find_term(spine.name, spine.number, spine.typ, inst.terms().as_slice()) {
         return Ok(same_term(found, &term));
     }
     inst.put_term(

@@ -1,9 +1,10 @@
 //! The steps of unification.
 
 ghost use Rattle.std.specs.Prelude.{◌≡◌, ◌++◌, IfOk};
+ghost use Rattle.isa_terms.specs.Terms.{Unknown};
 ghost use Rattle.isa_unify.specs.Spines.{head_of, args_of, distinct_bounds};
 ghost use Rattle.isa_unify.specs.Steps.{taken, prune};
-ghost use Rattle.isa_unify.specs.Unification.{agreeing, assigned, renewed, both_become, solve, solve_same, solve_two, solve_unknowns, flexible_step, after_types, front_step, parts_at, unify_step, unified};
+ghost use Rattle.isa_unify.specs.Unification.{agreeing, assigned, renewed, both_become, solve, solve_same, solve_two, solve_unknowns, on_pattern, flexible_step, after_types, front_step, parts_at, unify_step, unified};
 
 use crate::abstractions::{abstracted, over, range_behind};
 use crate::clashing::unified_types;
@@ -14,7 +15,7 @@ use crate::parts::parts_at;
 use crate::places::{Pattern, first_place, shared_of};
 use crate::progress::{Answer, Parts, Progress, State, Verdict};
 use crate::spines::{args_of, distinct_bounds, head_of};
-use isa_terms::{Term, TermEntries, TermEntry, TermNode};
+use isa_terms::{Name, Term, TermEntries, TermEntry, TermNode, Typ};
 use std::alloc::{AllocError, Global};
 
 /// The unknown of the pattern with its term.
@@ -224,58 +225,95 @@ fn variables_of(alloc: Global, t: &Term) -> Result<Option<Numbers>, AllocError>
     distinct_bounds(alloc, args.as_slice())
 }
 
+/// An unknown at the head of a side.
+#[derive(Drop)]
+struct Head<'t> {
+    name: &'t Name,
+    number: u32,
+    typ: &'t Typ,
+}
+
+/// Two unknowns at the heads of both sides.
+fn solve_both(
+    alloc: Global,
+    state: Late,
+    equation: &Equation,
+    left: &Head<'_>,
+    right: &Head<'_>,
+) -> Result<Progress, AllocError>
+    ensures { IfOk result (λ p. p ≡ taken (flexible_step state equation.now (Unknown left.now.name.now left.now.number left.now.typ.now) (Unknown right.now.name.now right.now.number right.now.typ.now))) }
+{
+    let Some(variables) = variables_of(alloc, &equation.left)? else {
+        return Ok(Progress::Ended(Answer::Outside));
+    };
+    let Some(others) = variables_of(alloc, &equation.right)? else {
+        return Ok(Progress::Ended(Answer::Outside));
+    };
+    let left = Pattern {
+        name: left.name,
+        number: left.number,
+        typ: left.typ,
+        variables: variables.as_slice(),
+    };
+    let right = Pattern {
+        name: right.name,
+        number: right.number,
+        typ: right.typ,
+        variables: others.as_slice(),
+    };
+    solve_unknowns(alloc, state, equation, &left, &right)
+}
+
+/// An unknown at the head of one side against the other, which is rigid.
+fn solve_side(
+    alloc: Global,
+    state: Late,
+    equation: &Equation,
+    head: &Head<'_>,
+    side: &Term,
+    other: &Term,
+) -> Result<Progress, AllocError>
+    ensures { IfOk result (λ p. p ≡ taken (on_pattern (distinct_bounds (args_of side.now)) (λ xs. solve state equation.now head.now.name.now head.now.number head.now.typ.now xs other.now))) }
+{
+    let Some(variables) = variables_of(alloc, side)? else {
+        return Ok(Progress::Ended(Answer::Outside));
+    };
+    let solved = Pattern {
+        name: head.name,
+        number: head.number,
+        typ: head.typ,
+        variables: variables.as_slice(),
+    };
+    solve(alloc, state, equation, &solved, other)
+}
+
 /// An equation with a flexible side.
 fn flexible_step(alloc: Global, state: Late, equation: &Equation) -> Result<Progress, AllocError>
     ensures { IfOk result (λ p. p ≡ taken (flexible_step state equation.now (head_of equation.now.left) (head_of equation.now.right))) }
 {
-    match (
-        head_of(&equation.left).view(),
-        head_of(&equation.right).view(),
-    ) {
+    let left = &equation.left;
+    let right = &equation.right;
+    match (head_of(left).view(), head_of(right).view()) {
         (TermNode::Unknown(name, number, typ), TermNode::Unknown(other, count, kind)) => {
-            let Some(left) = variables_of(alloc, &equation.left)? else {
-                return Ok(Progress::Ended(Answer::Outside));
-            };
-            let Some(right) = variables_of(alloc, &equation.right)? else {
-                return Ok(Progress::Ended(Answer::Outside));
-            };
-            let left = Pattern {
-                name,
-                number: *number,
-                typ,
-                variables: left.as_slice(),
-            };
-            let right = Pattern {
+            let number = *number;
+            let head = Head { name, number, typ };
+            let number = *count;
+            let against = Head {
                 name: other,
-                number: *count,
+                number,
                 typ: kind,
-                variables: right.as_slice(),
             };
-            solve_unknowns(alloc, state, equation, &left, &right)
+            solve_both(alloc, state, equation, &head, &against)
         }
         (TermNode::Unknown(name, number, typ), _) => {
-            let Some(variables) = variables_of(alloc, &equation.left)? else {
-                return Ok(Progress::Ended(Answer::Outside));
-            };
-            let solved = Pattern {
-                name,
-                number: *number,
-                typ,
-                variables: variables.as_slice(),
-            };
-            solve(alloc, state, equation, &solved, &equation.right)
+            let number = *number;
+            let head = Head { name, number, typ };
+            solve_side(alloc, state, equation, &head, left, right)
         }
         (_, TermNode::Unknown(name, number, typ)) => {
-            let Some(variables) = variables_of(alloc, &equation.right)? else {
-                return Ok(Progress::Ended(Answer::Outside));
-            };
-            let solved = Pattern {
-                name,
-                number: *number,
-                typ,
-                variables: variables.as_slice(),
-            };
-            solve(alloc, state, equation, &solved, &equation.left)
+            let number = *number;
+            let head = Head { name, number, typ };
+            solve_side(alloc, state, equation, &head, right, left)
         }
         _ => Ok(Progress::Ended(Answer::No)),
     }

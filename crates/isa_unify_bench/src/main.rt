@@ -1,0 +1,150 @@
+// How long unification takes, and how much memory: `isa_unify_bench KIND SIZE`, KIND being one of
+// `walk` (two terms of about so many nodes, built apart, without unknowns), `chain` (so many unknowns, each under one
+// more application) and `types` (so many type unknowns, each the argument of the next).
+#![tactic(auto)]
+
+use isa_terms::{Name, Term, TermNode, Terms, Typ, TypNode, Typs, function_type};
+use isa_unify::{Fresh, TypePair, Unified, unify, unify_type_pairs};
+use std::alloc::{AllocError, Global};
+use std::{env, io};
+
+/// The type of all leaves.
+fn base(alloc: Global) -> Result<Typ, AllocError> {
+    Typ::new(
+        alloc,
+        TypNode::Con(Name::from_text(alloc, "i")?, Typs::new(alloc)),
+    )
+}
+
+/// The type of the functions of two leaves.
+fn binary(alloc: Global) -> Result<Typ, AllocError> {
+    let unary = function_type(alloc, base(alloc)?, base(alloc)?)?;
+    function_type(alloc, base(alloc)?, unary)
+}
+
+fn constant(alloc: Global, name: &str, typ: &Typ) -> Result<Term, AllocError> {
+    Term::new(
+        alloc,
+        TermNode::Const(Name::from_text(alloc, name)?, typ.copy()?),
+    )
+}
+
+/// The constant `f` on two terms.
+fn pair(alloc: Global, typ: &Typ, left: Term, right: Term) -> Result<Term, AllocError> {
+    let fun = constant(alloc, "f", typ)?;
+    let half = Term::new(alloc, TermNode::App(fun, left))?;
+    Term::new(alloc, TermNode::App(half, right))
+}
+
+/// A term of about so many nodes, no two of them shared.
+fn tree(alloc: Global, size: u64, binary: &Typ, base: &Typ) -> Result<Term, AllocError> {
+    if size < 4 {
+        return constant(alloc, "c", base);
+    }
+    let left = tree(alloc, size / 2, binary, base)?;
+    let right = tree(alloc, size / 2, binary, base)?;
+    pair(alloc, binary, left, right)
+}
+
+/// The unknown of that number, or the constant `c`.
+fn item(alloc: Global, known: bool, number: u32, base: &Typ) -> Result<Term, AllocError> {
+    if known {
+        constant(alloc, "c", base)
+    } else {
+        Term::new(
+            alloc,
+            TermNode::Unknown(Name::from_text(alloc, "x")?, number, base.copy()?),
+        )
+    }
+}
+
+/// So many items, each under one more application.
+fn chain(alloc: Global, known: bool, length: u32) -> Result<Term, AllocError> {
+    let base = base(alloc)?;
+    let binary = binary(alloc)?;
+    let mut t = constant(alloc, "c", &base)?;
+    for number in 0..length {
+        let item = item(alloc, known, number, &base)?;
+        t = pair(alloc, &binary, item, t)?;
+    }
+    Ok(t)
+}
+
+/// The type unknown of that number.
+fn type_unknown(alloc: Global, number: u32) -> Result<Typ, AllocError> {
+    Typ::new(
+        alloc,
+        TypNode::Unknown(Name::from_text(alloc, "a")?, number),
+    )
+}
+
+/// So many type unknowns, each as a list of the next.
+fn type_pairs(alloc: Global, length: u32) -> Result<Vec<TypePair>, AllocError> {
+    let mut pairs = Vec::new(alloc);
+    for number in 0..length {
+        let mut args = Typs::new(alloc);
+        args.push(type_unknown(alloc, number.saturating_add(1))?)?;
+        pairs.push(TypePair {
+            left: type_unknown(alloc, number)?,
+            right: Typ::new(alloc, TypNode::Con(Name::from_text(alloc, "list")?, args))?,
+        })?;
+    }
+    Ok(pairs)
+}
+
+/// What unification answers on two terms, as text.
+fn answer(alloc: Global, left: &Term, right: &Term) -> Result<String, AllocError> {
+    let mut fresh = Fresh::after(&Terms::new(alloc));
+    fresh.set(1_000_000);
+    match unify(alloc, left, right, &mut fresh)? {
+        Unified::Yes(inst) => {
+            let count = inst.terms().len();
+            format!(in alloc; "yes, {count} terms")
+        }
+        Unified::No => String::from_str(alloc, "no"),
+        Unified::Outside => String::from_str(alloc, "outside"),
+    }
+}
+
+/// What unification answers on types, as text.
+fn type_answer(alloc: Global, pairs: Vec<TypePair>) -> Result<String, AllocError> {
+    match unify_type_pairs(alloc, pairs)? {
+        Some(entries) => {
+            let count = entries.len();
+            format!(in alloc; "yes, {count} types")
+        }
+        None => String::from_str(alloc, "no"),
+    }
+}
+
+/// The answer of that kind and size, as text.
+fn run(alloc: Global, kind: &str, size: u32) -> Result<String, AllocError> {
+    if kind == "types" {
+        return type_answer(alloc, type_pairs(alloc, size)?);
+    }
+    if kind == "chain" {
+        return answer(
+            alloc,
+            &chain(alloc, false, size)?,
+            &chain(alloc, true, size)?,
+        );
+    }
+    let base = base(alloc)?;
+    let binary = binary(alloc)?;
+    let left = tree(alloc, u64::from(size), &binary, &base)?;
+    let right = tree(alloc, u64::from(size), &binary, &base)?;
+    answer(alloc, &left, &right)
+}
+
+fn main(rt: HostRuntime) -> io::Result<()> {
+    let alloc = rt.alloc();
+    let mut words = env::args(&rt)?;
+    let _program = words.next();
+    let kind = words.next().unwrap_or(String::new(alloc));
+    let size = match words.next() {
+        Some(word) => word.as_str().parse::<u32>().unwrap_or(0),
+        None => 0,
+    };
+    let text = run(alloc, kind.as_str(), size)?;
+    println!(rt; "{kind} {size}: {text}")
+}
