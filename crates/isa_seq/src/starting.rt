@@ -1,7 +1,7 @@
 // How each kind of method expression starts on a state, at a number: the frames that it pushes.
 #![tactic(auto)]
 
-ghost use Rattle.std.specs.Prelude.{◌≡◌, IfOk};
+ghost use Rattle.std.specs.Prelude.{IfOk};
 ghost use Rattle.isa_seq.specs.Tactics.{trace};
 ghost use Rattle.isa_seq.specs.Work.{cost};
 ghost use Rattle.isa_seq.specs.Steps.{Starts};
@@ -16,13 +16,13 @@ use crate::tac::{Tac, TacNode};
 use std::alloc::{AllocError, Global};
 
 /// The state itself if it has no subgoals.
-pub fn start_solved<R: Prims>(
+pub(crate) fn start_solved<R: Prims>(
     prims: &R,
     frames: &mut Frames<R>,
     state: R::State,
     number: usize,
 ) -> Result<Option<Event<R::State>>, AllocError>
-    ensures { let m = R.meaning prims.now in IfOk result (Starts m (R.rest prims.now) (R.fits prims.now) frames.old.items frames.new.items (trace m (TacNode.Solved) state number) (cost m (TacNode.Solved) state number)) }
+    ensures { let m = R.meaning prims.now in IfOk result (Starts m (R.rest prims.now) (R.fits prims.now) frames.old.items frames.new.items (trace m TacNode.Solved state number) (cost m TacNode.Solved state number)) }
 {
     if prims.subgoals(&state) == 0 {
         return Ok(Some(Event::Res(state)));
@@ -31,7 +31,7 @@ pub fn start_solved<R: Prims>(
 }
 
 /// A run of a primitive.
-pub fn start_goal<R: Prims>(
+pub(crate) fn start_goal<R: Prims>(
     prims: &R,
     alloc: Global,
     frames: &mut Frames<R>,
@@ -47,7 +47,7 @@ pub fn start_goal<R: Prims>(
 }
 
 /// The second on each result of the first.
-pub fn start_then<R: Prims>(
+pub(crate) fn start_then<R: Prims>(
     _prims: &R,
     frames: &mut Frames<R>,
     first: &Tac<R::Prim>,
@@ -63,7 +63,7 @@ pub fn start_then<R: Prims>(
 }
 
 /// The first, and the second behind it as the alternative.
-pub fn start_or_else<R: Prims>(
+pub(crate) fn start_or_else<R: Prims>(
     prims: &R,
     alloc: Global,
     frames: &mut Frames<R>,
@@ -81,7 +81,7 @@ pub fn start_or_else<R: Prims>(
 }
 
 /// The first, and the second behind it.
-pub fn start_append<R: Prims>(
+pub(crate) fn start_append<R: Prims>(
     prims: &R,
     alloc: Global,
     frames: &mut Frames<R>,
@@ -99,7 +99,7 @@ pub fn start_append<R: Prims>(
 }
 
 /// The expression, and the state itself behind it as the alternative.
-pub fn start_try<R: Prims>(
+pub(crate) fn start_try<R: Prims>(
     prims: &R,
     alloc: Global,
     frames: &mut Frames<R>,
@@ -116,7 +116,7 @@ pub fn start_try<R: Prims>(
 }
 
 /// The expression at the numbers from 1 up, as long as there is no result.
-pub fn start_first_goal<R: Prims>(
+pub(crate) fn start_first_goal<R: Prims>(
     prims: &R,
     frames: &mut Frames<R>,
     body: &Tac<R::Prim>,
@@ -131,7 +131,7 @@ pub fn start_first_goal<R: Prims>(
 }
 
 /// The expression at each number, from the last down.
-pub fn start_all_goals<R: Prims>(
+pub(crate) fn start_all_goals<R: Prims>(
     prims: &R,
     frames: &mut Frames<R>,
     body: &Tac<R::Prim>,
@@ -146,7 +146,7 @@ pub fn start_all_goals<R: Prims>(
 }
 
 /// Rounds of the expression's first results.
-pub fn start_repeat_determ<R: Prims>(
+pub(crate) fn start_repeat_determ<R: Prims>(
     _prims: &R,
     alloc: Global,
     frames: &mut Frames<R>,
@@ -162,7 +162,7 @@ pub fn start_repeat_determ<R: Prims>(
 }
 
 /// The expression, under a frame that ends it after its first result.
-pub fn start_determ<R: Prims>(
+pub(crate) fn start_determ<R: Prims>(
     _prims: &R,
     frames: &mut Frames<R>,
     body: &Tac<R::Prim>,
@@ -177,7 +177,7 @@ pub fn start_determ<R: Prims>(
 }
 
 /// A search in which the state alone waits.
-pub fn start_best_first<R: Prims>(
+pub(crate) fn start_best_first<R: Prims>(
     prims: &R,
     alloc: Global,
     frames: &mut Frames<R>,
@@ -194,7 +194,7 @@ pub fn start_best_first<R: Prims>(
 }
 
 /// The expression, under a frame that drops what is the same as the state.
-pub fn start_changed<R: Prims>(
+pub(crate) fn start_changed<R: Prims>(
     prims: &R,
     alloc: Global,
     frames: &mut Frames<R>,
@@ -211,7 +211,7 @@ pub fn start_changed<R: Prims>(
 }
 
 /// The expression on the subgoal alone, under a frame that puts it back. Nothing if there is no such subgoal.
-pub fn start_select<R: Prims>(
+pub(crate) fn start_select<R: Prims>(
     prims: &R,
     alloc: Global,
     frames: &mut Frames<R>,
