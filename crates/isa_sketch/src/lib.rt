@@ -1,0 +1,15 @@
+//! Types, terms and theorems written as words, for the tables of tests.
+#![tactic(auto)]
+
+mod bench;
+mod fault;
+mod rule;
+mod stack;
+mod symbols;
+mod terms;
+mod types;
+
+pub use bench::Bench;
+pub use fault::Fault;
+pub use symbols::{Symbols, split};
+pub use types::typ;
