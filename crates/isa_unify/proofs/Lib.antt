@@ -12,6 +12,7 @@ pub mod Adequacy
 pub mod Loops
 pub mod Lists
 pub mod NoTypes
+pub mod ClosedTerms
 pub mod LateLists
 pub mod LateSteps
 pub mod Once

@@ -3,6 +3,7 @@
 ghost use Rattle.std.specs.Prelude.{◌≡◌, map, IfOk};
 ghost use Rattle.isa_unify.specs.Unification.{no_variable, variable, bind_all, place_behind, moved, abstracted, arrows, range_behind, on_bounds, over};
 
+use crate::binders::is_closed;
 use crate::equation::{Binders, Variable};
 use isa_terms::{
     Name, Term, TermNode, Typ, TypNode, Typs, abstraction, function_type, split_function,
@@ -86,6 +87,7 @@ fn moved(alloc: Global, numbers: &[u32], depth: u32, t: &Term) -> Result<Term, A
 }
 
 /// `%xs. t`, the xs being variables among the binders, which give their names and types.
+#[tactic(auto, using(crate::proofs::ClosedTerms::moved_closed))]
 pub fn abstracted(
     alloc: Global,
     binders: &Binders,
@@ -94,7 +96,11 @@ pub fn abstracted(
 ) -> Result<Term, AllocError>
     ensures { IfOk result (λ r. r ≡ abstracted binders.now numbers.now t.now) }
 {
-    let body = moved(alloc, numbers, 0, t)?;
+    let body = if is_closed(0, t)? {
+        t.copy()?
+    } else {
+        moved(alloc, numbers, 0, t)?
+    };
     bound_over(alloc, binders, numbers, body)
 }
 

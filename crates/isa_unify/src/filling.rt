@@ -6,7 +6,8 @@ ghost use Rattle.isa_unify.specs.Unification.{filled, filled_equation, filled_en
 
 use crate::equation::{Binders, Equation, Equations, Variable};
 use crate::progress::State;
-use isa_terms::{Term, TermEntries, TermEntry, TypeEntries, TypeEntry, inst_term, inst_typ, norm};
+use crate::types::typ_under;
+use isa_terms::{Term, TermEntries, TermEntry, TypeEntries, TypeEntry, inst_term, norm};
 use std::alloc::{AllocError, Global};
 
 /// The term with terms for its unknowns, in normal form.
@@ -72,7 +73,7 @@ fn retyped_binders(
     for variable in binders.as_slice() {
         done.push(Variable {
             name: variable.name.copy()?,
-            typ: inst_typ(alloc, types, &variable.typ)?,
+            typ: typ_under(alloc, types, &variable.typ)?,
         })?;
     }
     Binders::of(alloc, done)
@@ -120,7 +121,7 @@ pub fn retyped_types(
         done.push(TypeEntry {
             name: entry.name.copy()?,
             number: entry.number,
-            typ: inst_typ(alloc, types, &entry.typ)?,
+            typ: typ_under(alloc, types, &entry.typ)?,
         })?;
     }
     Ok(done)

@@ -124,9 +124,13 @@ fn last(count: usize, log: &[Solution]) -> &[Solution]
 /// The state of a unification: the equations that wait, and what was solved.
 #[derive(Drop)]
 pub struct Late {
+    /// The equations, the first one on top.
     stack: Vec<Waiting>,
+    /// What was solved, in order.
     log: Vec<Solution>,
+    /// How many solutions the first equation has missed.
     missed: usize,
+    /// What is asked for, without the solutions.
     types: TypeEntries,
     terms: TermEntries,
     next: u32,

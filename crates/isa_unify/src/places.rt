@@ -1,7 +1,8 @@
 //! The first place of a term that decides for an unknown.
 
-ghost use Rattle.std.specs.Prelude.{◌≡◌, ◌∷◌, [], ◌++◌, filter, IfOk};
+ghost use Rattle.std.specs.Prelude.{◌≡◌, ◌∷◌, [], ◌++◌, cond, filter, IfOk};
 ghost use Rattle.isa_unify.specs.Spines.{has_number};
+ghost use Rattle.isa_unify.specs.declared.progress.Verdict.TheVariants.{Fine, Refused};
 ghost use Rattle.isa_unify.specs.Unification.{allowed, at_pattern, at_unknown, first_place};
 
 use crate::equation::{Binders, Variable};
@@ -114,6 +115,28 @@ fn at_unknown(
     }
 }
 
+/// A bound variable.
+fn at_bound(variables: &[u32], depth: u32, number: u32) -> Verdict
+    ensures { result ≡ cond (allowed variables.now depth number) Fine Refused }
+{
+    if is_allowed(variables, depth, number) {
+        Verdict::Fine
+    } else {
+        Verdict::Refused
+    }
+}
+
+/// The binders under one more.
+fn entered(alloc: Global, binders: &Binders, name: &Name, typ: &Typ) -> Result<Binders, AllocError>
+    ensures { IfOk result (λ bs. bs ≡ record { name = name.now; typ = typ.now } ∷ binders.now) }
+{
+    let variable = Variable {
+        name: name.copy()?,
+        typ: typ.copy()?,
+    };
+    binders.under(alloc, variable)
+}
+
 /// What the first place that decides, in preorder, says.
 pub fn first_place(
     alloc: Global,
@@ -126,30 +149,14 @@ pub fn first_place(
 {
     match t.view() {
         TermNode::Const(_, _) | TermNode::Free(_, _) => Ok(Verdict::Fine),
-        TermNode::Unknown(name, number, typ) => at_pattern(
-            alloc,
-            solved,
-            depth,
-            binders,
-            name,
-            *number,
-            typ,
-            Numbers::new(alloc),
-        ),
-        TermNode::Bound(number) => {
-            if is_allowed(solved.variables, depth, *number) {
-                Ok(Verdict::Fine)
-            } else {
-                Ok(Verdict::Refused)
-            }
+        TermNode::Unknown(name, number, typ) => {
+            let none = Numbers::new(alloc);
+            at_pattern(alloc, solved, depth, binders, name, *number, typ, none)
         }
+        TermNode::Bound(number) => Ok(at_bound(solved.variables, depth, *number)),
         TermNode::Abs(name, typ, body) => {
             let under = depth.checked_add(1).ok_or(AllocError)?;
-            let variable = Variable {
-                name: name.copy()?,
-                typ: typ.copy()?,
-            };
-            let binders = binders.under(alloc, variable)?;
+            let binders = entered(alloc, binders, name, typ)?;
             first_place(alloc, solved, under, &binders, body)
         }
         TermNode::App(fun, arg) => {

@@ -9,7 +9,7 @@ ghost use Rattle.isa_terms.specs.Types.{tys_of};
 ghost use Rattle.isa_unify.specs.TypeUnification.{ty_has, tys_have, one, equations_under, paired, type_state, unify_typs};
 ghost use Rattle.isa_unify.specs.TypeStacks.{pair_of, stack_of, Pushes, Solves, Advances};
 
-use isa_terms::{Inst, Name, Typ, TypNode, TypeEntry, inst_typ, same_typ};
+use isa_terms::{Inst, Name, Typ, TypNode, TypeEntry, in_typ, inst_typ, same_typ};
 use std::alloc::{AllocError, Global};
 
 /// Two types that are to be made equal.
@@ -59,6 +59,18 @@ fn one_entry(
     Ok(entries)
 }
 
+/// The type under the entries, shared where none of them is for a type unknown of it.
+#[tactic(auto, using(isa_terms::proofs::Shared::inst_ty_none))]
+pub fn typ_under(alloc: Global, types: &[TypeEntry], typ: &Typ) -> Result<Typ, AllocError>
+    ensures { IfOk result (λ T. T ≡ inst_ty types.now typ.now) }
+{
+    if in_typ(types, typ) {
+        inst_typ(alloc, types, typ)
+    } else {
+        typ.copy()
+    }
+}
+
 /// The equations under the instance.
 fn replace_pairs(
     alloc: Global,
@@ -69,8 +81,8 @@ fn replace_pairs(
 {
     let mut replaced = Vec::new(alloc);
     for pair in pairs {
-        let left = inst_typ(alloc, by, &pair.left)?;
-        let right = inst_typ(alloc, by, &pair.right)?;
+        let left = typ_under(alloc, by, &pair.left)?;
+        let right = typ_under(alloc, by, &pair.right)?;
         replaced.push(TypePair { left, right })?;
     }
     Ok(replaced)
@@ -157,7 +169,7 @@ fn resolve(alloc: Global, mut entries: Vec<TypeEntry>) -> Result<Vec<TypeEntry>,
 {
     let mut found = Vec::new(alloc);
     while let Some(entry) = entries.pop() {
-        let typ = inst_typ(alloc, &found, &entry.typ)?;
+        let typ = typ_under(alloc, &found, &entry.typ)?;
         let TypeEntry { name, number, .. } = entry;
         found.insert(0, TypeEntry { name, number, typ })?;
     }

@@ -1,6 +1,8 @@
 // How long unification takes, and how much memory: `isa_unify_bench KIND SIZE`, KIND being one of
 // `walk` (two terms of about so many nodes, built apart, without unknowns), `chain` (so many unknowns, each under one
-// more application) and `types` (so many type unknowns, each the argument of the next).
+// more application) and `types` (so many type unknowns, each a list of the next).
+// `walk 100000` took 0.3 s of one processor and 35 MB, `chain 1000` and `types 1000` 0.15 s and 13 MB each; four times as
+// many unknowns take about sixteen times as long, and the same memory.
 #![tactic(auto)]
 
 use isa_terms::{Name, Term, TermNode, Terms, Typ, TypNode, Typs, function_type};
