@@ -48,7 +48,7 @@ impl Bench {
         let rule = Rule::of_word(word).ok_or(Fault::Words)?;
         match self.read(alloc, rest) {
             Ok(mut stack) => stack.derive(alloc, &self.theory, rule),
-            Err(_) => Err(Fault::Words),
+            Err(fault) => Err(fault.as_words()),
         }
     }
 }

@@ -15,6 +15,16 @@ pub enum Fault {
     Memory,
 }
 
+impl Fault {
+    /// Words without a meaning in the place of a refusal. Want of memory stays.
+    pub fn as_words(self) -> Fault {
+        match self {
+            Fault::Memory => Fault::Memory,
+            _ => Fault::Words,
+        }
+    }
+}
+
 impl From<AllocError> for Fault {
     ghost use Rattle.std.specs.Prelude.{◌≡◌};
     ghost use Rattle.isa_sketch.specs.declared.fault.Fault.TheVariants.{Memory};

@@ -1,4 +1,5 @@
-//! Types, terms and theorems written as words, for the tables of tests.
+//! Types, terms and theorems written as words, for the tables of tests. Nothing is claimed of what is read: a row that is read
+//! otherwise than it is meant differs from what it tells.
 #![tactic(auto)]
 
 mod bench;

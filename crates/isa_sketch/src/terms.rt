@@ -2,7 +2,7 @@ use crate::fault::Fault;
 use crate::symbols::Symbols;
 use crate::types::typ;
 use isa_kernel::{make_all, make_eq, make_imp};
-use isa_terms::{Name, Term, TermNode, Typ, type_of};
+use isa_terms::{IllTyped, Name, Term, TermNode, Typ, type_of};
 use std::alloc::Global;
 
 /// Terms, of which the one that was written last is taken first.
@@ -88,6 +88,7 @@ fn equation(alloc: Global, left: Term, right: Term) -> Result<Term, Fault> {
 fn typ_of(alloc: Global, t: &Term) -> Result<Typ, Fault> {
     match type_of(alloc, t) {
         Ok(typ) => Ok(typ),
+        Err(IllTyped::Memory) => Err(Fault::Memory),
         Err(_) => Err(Fault::Words),
     }
 }
