@@ -21,6 +21,7 @@ fn main(rt: HostRuntime) -> io::Result<()> {
             Ok(None) => {}
             Ok(Some(true)) => println!(rt; "ok      {line}")?,
             Ok(Some(false)) => println!(rt; "DIFFERS {line}")?,
+            Err(Fault::Memory) => return Err(AllocError.into()),
             Err(_) => println!(rt; "FAULT   {line}")?,
         }
     }

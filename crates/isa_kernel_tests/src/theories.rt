@@ -35,7 +35,7 @@ fn declare_type(
         return Err(Fault::Words);
     };
     let name = Name::from_text(alloc, name)?;
-    Ok(answers(wanted, theory.declare_type(alloc, &name, arity)))
+    answers(wanted, theory.declare_type(alloc, &name, arity))
 }
 
 fn declare_const(
@@ -47,14 +47,14 @@ fn declare_const(
     let (name, letters) = split(rest)?;
     let typ = typ(alloc, letters)?;
     let name = Name::from_text(alloc, name)?;
-    Ok(answers(wanted, theory.declare_const(alloc, &name, &typ)))
+    answers(wanted, theory.declare_const(alloc, &name, &typ))
 }
 
 fn add_axiom(alloc: Global, bench: &mut Bench, wanted: &str, rest: &str) -> Result<bool, Fault> {
     let (name, words) = split(rest)?;
     let prop = bench.term(alloc, words)?;
     let name = Name::from_text(alloc, name)?;
-    Ok(answers(wanted, bench.theory.add_axiom(alloc, &name, &prop)))
+    answers(wanted, bench.theory.add_axiom(alloc, &name, &prop))
 }
 
 /// Whether so many declarations are left.
@@ -82,14 +82,15 @@ fn constant(alloc: Global, theory: &Theory, wanted: &str, rest: &str) -> Result<
 }
 
 /// Whether the declaration is accepted or refused as it should be.
-fn answers(wanted: &str, answer: Result<(), TheoryFail>) -> bool {
-    match answer {
+fn answers(wanted: &str, answer: Result<(), TheoryFail>) -> Result<bool, Fault> {
+    let right = match answer {
         Ok(()) => is_word(wanted, "accepted"),
         Err(TheoryFail::Duplicate(name)) => is_about(wanted, "duplicate", &name),
         Err(TheoryFail::Unknown(name)) => is_about(wanted, "unknown", &name),
         Err(TheoryFail::Misfit(name)) => is_about(wanted, "misfit", &name),
         Err(TheoryFail::IllTyped(_fault)) => is_word(wanted, "ill_typed"),
         Err(TheoryFail::NotProp(_typ)) => is_word(wanted, "not_prop"),
-        Err(TheoryFail::Memory) => false,
-    }
+        Err(TheoryFail::Memory) => return Err(Fault::Memory),
+    };
+    Ok(right)
 }

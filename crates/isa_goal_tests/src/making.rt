@@ -1,0 +1,115 @@
+ghost use Rattle.std.specs.Prelude.{◌<◌, ◌≤◌, length, IsTrue};
+
+use crate::desk::Desk;
+use crate::rows::number;
+use crate::searching::next;
+use isa_goal::State;
+use isa_kernel::{InferenceError, Thm};
+use isa_sketch::{Bench, Fault, split};
+use std::alloc::{AllocError, Global};
+
+/// The state that the call makes.
+pub fn made(alloc: Global, desk: &mut Desk, verb: &str, rest: &str) -> Result<State, Fault> {
+    match verb {
+        "start" => start(alloc, &desk.bench, rest),
+        "refine" => refine(alloc, desk, rest),
+        "focus" => focus(alloc, desk, rest),
+        "unfocus" => unfocus(alloc, desk, rest),
+        "copy" => copy(alloc, desk, rest),
+        "next" => next(alloc, desk)?.ok_or(Fault::Words),
+        _ => Err(Fault::Words),
+    }
+}
+
+fn start(alloc: Global, bench: &Bench, rest: &str) -> Result<State, Fault> {
+    let goal = bench.term(alloc, rest)?;
+    answered(State::start(alloc, &goal))
+}
+
+/// By the words `STATE PLACE COUNT` and a theorem.
+fn refine(alloc: Global, desk: &Desk, rest: &str) -> Result<State, Fault> {
+    let (name, rest) = split(rest)?;
+    let (place, rest) = split(rest)?;
+    let (count, words) = split(rest)?;
+    let th = theorem(alloc, &desk.bench, words)?;
+    refined(
+        alloc,
+        desk.state(name)?,
+        number(place)?,
+        &th,
+        number(count)?,
+    )
+}
+
+/// The theorem that the words derive, of which no inference may be refused.
+pub fn theorem(alloc: Global, bench: &Bench, words: &str) -> Result<Thm, Fault> {
+    match bench.thm(alloc, words) {
+        Ok(th) => Ok(th),
+        Err(fault) => Err(fault.as_words()),
+    }
+}
+
+fn refined(
+    alloc: Global,
+    state: &State,
+    place: usize,
+    th: &Thm,
+    count: usize,
+) -> Result<State, Fault> {
+    answered(state.refine(alloc, place, th, count))
+}
+
+/// By the words `STATE PLACE`.
+fn focus(alloc: Global, desk: &Desk, rest: &str) -> Result<State, Fault> {
+    let (name, place) = split(rest)?;
+    focused(alloc, desk.state(name)?, number(place)?)
+}
+
+fn focused(alloc: Global, state: &State, place: usize) -> Result<State, Fault> {
+    if has_place(state, place) {
+        granted(state.focus(alloc, place))
+    } else {
+        Err(Fault::Words)
+    }
+}
+
+/// Whether there is a subgoal of that number.
+fn has_place(state: &State, place: usize) -> bool
+    ensures first { IsTrue result → 0 < place }
+    ensures last { IsTrue result → place ≤ length state.now.subgoals }
+{
+    0 < place && place <= state.subgoals().len()
+}
+
+fn granted(answer: Result<State, AllocError>) -> Result<State, Fault> {
+    match answer {
+        Ok(state) => Ok(state),
+        Err(_) => Err(Fault::Memory),
+    }
+}
+
+/// By the words `STATE INNER PLACE`.
+fn unfocus(alloc: Global, desk: &Desk, rest: &str) -> Result<State, Fault> {
+    let (name, rest) = split(rest)?;
+    let (inner, place) = split(rest)?;
+    unfocused(alloc, desk.state(name)?, desk.state(inner)?, number(place)?)
+}
+
+fn unfocused(alloc: Global, state: &State, inner: &State, place: usize) -> Result<State, Fault> {
+    if place == 0 {
+        return Err(Fault::Words);
+    }
+    granted(state.unfocus(alloc, inner, place))
+}
+
+fn copy(alloc: Global, desk: &Desk, name: &str) -> Result<State, Fault> {
+    Ok(desk.state(name)?.copy(alloc)?)
+}
+
+fn answered(answer: Result<State, InferenceError>) -> Result<State, Fault> {
+    match answer {
+        Ok(state) => Ok(state),
+        Err(InferenceError::Shape) => Err(Fault::Shape),
+        Err(InferenceError::Memory) => Err(Fault::Memory),
+    }
+}
