@@ -21,7 +21,7 @@ use Rattle.isa_kernel.specs.Inferences.{has_type, typed_as, keeps}
 use Rattle.isa_kernel.proofs.Preserved.{app_typed}
 use Rattle.isa_goal.specs.Matching.{is_ground, is_first_order, matched_unknown, matched}
 use Rattle.isa_goal.proofs.Matches.{both_true, ground_same}
-use Rattle.isa_goal.proofs.Chaining.{is_kept}
+use Rattle.isa_goal.proofs.Numbers.{is_kept}
 
 -- what the entries give, the instance gives
 record Agrees (n : Instance) (fs : List TermEntry) : Type 0 where

@@ -164,7 +164,7 @@ mutual
   empty_tys NoTys = refl
   empty_tys (MoreTys T Ts) = λ i. MoreTys (empty_ty T i) (empty_tys Ts i)
 
-empty_tm : (t : Tm) → inst_tm [] [] t ≡ t
+pub empty_tm : (t : Tm) → inst_tm [] [] t ≡ t
 empty_tm (Const x T) = ap (Const x) (empty_ty T)
 empty_tm (Free x T) = ap (Free x) (empty_ty T)
 empty_tm (Unknown x n T) = ap (Unknown x n) (empty_ty T)

@@ -171,9 +171,9 @@ unfocus_follows ax i s f inner e ds di h =
     let alone = alone_propositions s us vs w ds here in
     let g : Goals = record { subgoals = w ∷ []; goal = implies (us ++ vs) s.goal; base = s.base } in
     let k : Follows ax (canon g) inner = subst (λ x. Follows ax (canon x) inner) (sym made) h in
-    let to_canon : Follows ax g (canon g) = canon_follows ax g g alone.0 (alone_reduces ax g alone.0) in
+    let to_canon : Follows ax g (canon g) = canon_follows ax g g alone.0 alone.1 (alone_reduces ax g alone.0) in
     let first : Follows ax g inner = follows_chain ax g (canon g) inner alone.0 alone.1 (standing_propositions inner di) to_canon k in
     let plain : Follows ax s (unfocused s inner i) = plain_follows ax i (i - 1) s g inner us vs w here refl di first in
     let news : ArePropositions (unfocused s inner i).subgoals = put_back_propositions (length s.subgoals - 1) (i - 1) inner di in
-    let last : Follows ax (unfocused s inner i) (canon (unfocused s inner i)) = canon_follows ax (unfocused s inner i) (unfocused s inner i) news (alone_reduces ax (unfocused s inner i) news) in
+    let last : Follows ax (unfocused s inner i) (canon (unfocused s inner i)) = canon_follows ax (unfocused s inner i) (unfocused s inner i) news (leading_propositions (length s.subgoals - 1) inner di).1 (alone_reduces ax (unfocused s inner i) news) in
     follows_chain ax s (unfocused s inner i) (canon (unfocused s inner i)) (standing_propositions s ds) (derived_propositions s.subgoals s.goal ds.derivation).1 (canon_propositions (unfocused s inner i) news) plain last
