@@ -203,3 +203,25 @@ shaped_in_form t h n = go (is_in_form t) refl
     go : (b : Bool) → is_in_form t ≡ b → is_in_form (cond b t (norm (moved t))) ≡ true
     go true e = e
     go false e = let d : Typed [] t prop = typed_of_type [] t prop h in gathered_form (spelled_is t d n) [] [] (right_typed (spelled_conv t d)) tt tt
+
+-- ---- the steps as the code takes them
+pub gathered_parameter : (hs ups : List Tm) (t f : Tm) (x : List ℕ) (T : Ty) (b inner : Tm) (q : Ty × Tm) → App f (Abs x T b) ≡ t → Some q ≡ quantifier_parts t → ups ≡ map (raise 1 0) hs → inner ≡ gathered ups b → App f (Abs x T inner) ≡ gathered hs t
+gathered_parameter hs ups t f x T b inner q e g h k =
+    ap (λ u. App f (Abs x T u)) (k ∙ ap (λ us. gathered us b) h)
+    ∙ ap (λ o. elim o as (λ _. Tm) [ None ↦ implies hs (App f (Abs x T b)) | Some p ↦ App f (Abs x T (gathered (map (raise 1 0) hs) b)) ]) (g ∙ ap quantifier_parts (sym e))
+    ∙ ap (gathered hs) e
+
+pub gathered_premise : (hs gs : List Tm) (t f a : Tm) (p : Tm × Tm) → App f a ≡ t → IsHead a → Some p ≡ imp_parts t → gs ≡ hs ++ p.0 ∷ [] → gathered gs a ≡ gathered hs t
+gathered_premise hs gs t f a p e i g h =
+    ap (λ xs. gathered xs a) h
+    ∙ ap (λ (o : Option (Tm × Tm)). elim o as (λ _. Tm) [ None ↦ implies hs (App f a) | Some q ↦ gathered (hs ++ q.0 ∷ []) a ]) (g ∙ ap imp_parts (sym e))
+    ∙ sym (shape a i)
+    ∙ ap (gathered hs) e
+  where
+    shape : (a : Tm) → IsHead a → gathered hs (App f a) ≡ elim (imp_parts (App f a)) as (λ _. Tm) [ None ↦ implies hs (App f a) | Some q ↦ gathered (hs ++ q.0 ∷ []) a ]
+    shape (Const x T) i = refl
+    shape (Free x T) i = refl
+    shape (Unknown x m T) i = refl
+    shape (Bound m) i = refl
+    shape (App k c) i = refl
+    shape (Abs x T b) i = absurd i

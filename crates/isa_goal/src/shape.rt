@@ -132,7 +132,7 @@ pub(crate) fn gathered(alloc: Global, premises: &[Term], t: &Term) -> Result<Ter
         TermNode::App(fun, arg) => match arg.view() {
             TermNode::Abs(name, typ, body) => match split_quantifier(t) {
                 None => make_implies(alloc, premises, t),
-                Some(_) => {
+                Some((_, _)) => {
                     let under = raise_all(alloc, premises, Terms::new(alloc))?;
                     let inner = gathered(alloc, under.as_slice(), body)?;
                     applied_to_abs(alloc, fun, name, typ, inner)
