@@ -1,25 +1,23 @@
 -- What follows from what follows.
-use Rattle.std.proofs.Common.{◌≡◌, ◌⊎◌, inl, inr, List, [], ◌∷◌, ◌++◌, map, Bool, true, false, ◌&&◌, Option, Some, refl, sym, ap, ◌∙◌, subst}
+use Rattle.std.proofs.Common.{◌≡◌, inl, inr, List, [], ◌∷◌, map, true, ◌&&◌, refl, sym, ap, ◌∙◌, subst}
 use Rattle.isa_terms.specs.Types.{Ty}
 use Rattle.isa_terms.specs.Terms.{Tm, bare}
-use Rattle.isa_terms.specs.Equal.{ty_eq}
 use Rattle.isa_terms.specs.Typing.{HasType, type_at}
-use Rattle.isa_terms.specs.Instance.{Instance, instance_of, inst_ty, inst_tm}
+use Rattle.isa_terms.specs.Instance.{Instance, instance_of, inst_ty}
 use Rattle.isa_terms.specs.declared.inst.TypeEntry.{TypeEntry}
 use Rattle.isa_terms.specs.declared.inst.TermEntry.{TermEntry}
 use Rattle.isa_terms.proofs.Bare.{type_at_bare}
 use Rattle.isa_terms.proofs.Equal.{ty_decides}
-use Rattle.isa_conversion.specs.Instances.{IsKept, KeepsTypes, followed_by, Each}
-use Rattle.isa_conversion.proofs.Typed.{Typed, type_of_typed, typed_of_type}
+use Rattle.isa_conversion.specs.Instances.{IsKept, followed_by, Each}
+use Rattle.isa_conversion.proofs.Typed.{type_of_typed, typed_of_type}
 use Rattle.isa_conversion.proofs.Instances.{inst_typed, inst_bare_same, inst_norm_typed}
 use Rattle.isa_conversion.proofs.Normal.{norm_normal}
 use Rattle.isa_terms.specs.Normal.{IsNormal}
 use Rattle.isa_conversion.proofs.Laws.{instances_compose_law}
 use Rattle.isa_kernel.specs.Logic.{prop, IsProposition}
 use Rattle.isa_kernel.specs.Derivation.{Member, Derives}
-use Rattle.isa_kernel.specs.Inferences.{keeps, has_type, typed_as}
+use Rattle.isa_kernel.specs.Inferences.{keeps, typed_as}
 use Rattle.isa_kernel.proofs.Members.{bares}
-use Rattle.isa_kernel.proofs.Sound.{has_type_is}
 use Rattle.isa_goal.specs.Goals.{Goals, implies, IsStanding}
 use Rattle.isa_goal.specs.Shape.{reshaped}
 use Rattle.isa_goal.specs.Names.{naming, normalised, canon}
@@ -27,7 +25,6 @@ use Rattle.isa_goal.specs.Follows.{Follows, IsNormalState, instanced}
 use Rattle.isa_goal.specs.Follows as follows
 use Rattle.isa_goal.proofs.Deriving.{ArePropositions, implies_bare, derived_propositions, propositions_member}
 use Rattle.isa_goal.proofs.Following.{From, each_of, of_each, chain, map_member, from_instance}
-use Rattle.isa_goal.proofs.Matches.{both_true}
 use Rattle.isa_goal.proofs.Numbers.{naming_keeps, is_kept, form_propositions}
 
 pub kept_keeps : (es : List TypeEntry) (fs : List TermEntry) → IsKept es fs → keeps es fs ≡ true

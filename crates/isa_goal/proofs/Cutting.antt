@@ -1,11 +1,10 @@
 -- What the inferences behind a step answer.
-use Rattle.std.proofs.Common.{◌≡◌, ◌⊎◌, inl, inr, List, [], ◌∷◌, ◌++◌, map, Bool, true, false, cond, Option, Some, None, refl, sym, ap, ◌∙◌, subst, append-nil}
+use Rattle.std.proofs.Common.{◌≡◌, inl, inr, List, [], ◌∷◌, ◌++◌, map, Bool, true, false, cond, Some, None, refl, sym, ap, ◌∙◌, subst, append-nil}
 use Rattle.std.specs.Prelude.{option_and_then}
-use Rattle.isa_terms.specs.Terms.{Tm, bare}
+use Rattle.isa_terms.specs.Terms.{Tm}
 use Rattle.isa_terms.specs.Equal.{tm_eq}
 use Rattle.isa_terms.specs.Sets.{has, missing, joined, without}
-use Rattle.isa_terms.specs.Typing.{HasType}
-use Rattle.isa_kernel.specs.Logic.{prop, imp, IsProposition}
+use Rattle.isa_kernel.specs.Logic.{prop, imp}
 use Rattle.isa_kernel.specs.declared.axioms.NamedProp.{NamedProp}
 use Rattle.isa_kernel.specs.Axioms.{joined_bases}
 use Rattle.isa_kernel.specs.Derivation.{Member, Within}
@@ -13,8 +12,8 @@ use Rattle.isa_kernel.specs.Theorem.{Theorem, IsDerived}
 use Rattle.isa_kernel.specs.Inferences.{has_type, assumed, implies_introduced, implies_eliminated}
 use Rattle.isa_kernel.proofs.Sound.{assumed_sound, implies_introduced_sound, implies_eliminated_sound}
 use Rattle.isa_conversion.proofs.Functions.{bind_some, cond_some}
-use Rattle.isa_kernel.proofs.Members.{Member-left, Member-right, Member-split, Within-append, Member-without}
-use Rattle.isa_goal.specs.Goals.{Goals, implies, theorem_of, Proves}
+use Rattle.isa_kernel.proofs.Members.{Member-left, Member-right, Within-append, Member-without}
+use Rattle.isa_goal.specs.Goals.{implies, Proves}
 use Rattle.isa_goal.specs.Steps.{eliminated, introduced, cut, met_under, raised}
 use Rattle.isa_goal.proofs.Deriving.{tm_eq_same, has_type_of, ArePropositions, implies_append, implies_proposition, propositions_under}
 

@@ -3,13 +3,12 @@ use Rattle.std.specs.Prelude.{is_some, not}
 use Rattle.std.proofs.Common.{◌≡◌, ℕ, ◌-◌, List, [], ◌∷◌, ◌++◌, map, Bool, true, false, cond, ◌||◌, nat_eq, nat_lt, Option, Some, None, refl, sym, ap, ◌∙◌, subst}
 use Rattle.isa_terms.specs.Types.{Ty}
 use Rattle.isa_terms.specs.Terms.{Tm, Const, Free, Unknown, Bound, Abs, App}
-use Rattle.isa_terms.specs.Typing.{function_of}
-use Rattle.isa_terms.specs.Replace.{raise, put, replace}
+use Rattle.isa_terms.specs.Replace.{raise, replace}
 use Rattle.isa_terms.specs.Norm.{norm, eta, loose}
 use Rattle.isa_terms.specs.Normal.{IsHead, IsNormal}
-use Rattle.isa_kernel.specs.Logic.{prop, imp, IsProposition}
+use Rattle.isa_kernel.specs.Logic.{prop, IsProposition}
 use Rattle.isa_kernel.specs.Forms.{imp_parts, quantifier_parts}
-use Rattle.isa_kernel.proofs.Quantifier.{quantifier, quantifier_made}
+use Rattle.isa_kernel.proofs.Quantifier.{quantifier}
 use Rattle.isa_kernel.proofs.Preserved.{abs_typed}
 use Rattle.isa_conversion.proofs.Typed.{Typed, typed_of_type}
 use Rattle.isa_conversion.proofs.Conv.{right_typed}
@@ -17,7 +16,7 @@ use Rattle.isa_conversion.proofs.Normal.{norm_normal, norm_same, raise_normal}
 use Rattle.isa_goal.specs.Goals.{implies, conclusion}
 use Rattle.isa_goal.specs.Follows.{Each}
 use Rattle.isa_goal.specs.Shape.{is_quantified, is_in_form, over_name, over_names, spelled, gathered, moved, shaped}
-use Rattle.isa_goal.proofs.Spelling.{implication, imp_front, all_front, premise_typed, over_typed, body_typed, all_constant, spelled_conv, AllTyped, all_raised, all_more, gathered_typed}
+use Rattle.isa_goal.proofs.Spelling.{implication, imp_front, all_front, premise_typed, body_typed, all_constant, spelled_conv, AllTyped, all_raised, all_more, gathered_typed}
 
 -- ---- what is spelled out
 -- `!!`s over abstractions and `==>`s, and then a conclusion that is neither

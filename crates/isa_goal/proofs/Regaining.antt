@@ -1,6 +1,6 @@
 -- The inferences that bring a subgoal into its form give what they should.
-use Rattle.std.specs.Prelude.{option_and_then, Result, Ok, Err}
-use Rattle.std.proofs.Common.{◌≡◌, ◌⊎◌, inl, inr, ℕ, zero, suc, ◌+◌, ◌<◌, ◌≤◌, arith, length, List, [], ◌∷◌, ◌++◌, map, Bool, true, false, cond, ◌||◌, nat_lt, Option, Some, None, refl, sym, ap, ◌∙◌, subst, ◌-◌, length-append}
+use Rattle.std.specs.Prelude.{option_and_then, Result, Err}
+use Rattle.std.proofs.Common.{◌≡◌, inl, inr, ℕ, zero, suc, ◌+◌, ◌<◌, ◌≤◌, arith, length, List, [], ◌∷◌, ◌++◌, map, true, false, cond, ◌||◌, nat_lt, Option, Some, None, refl, sym, ap, ◌∙◌, subst, ◌-◌, length-append}
 use Rattle.std.specs.List.{slice_get}
 use Rattle.isa_terms.specs.Types.{Ty}
 use Rattle.isa_terms.specs.Terms.{Tm, Const, Free, Unknown, Bound, Abs, App, bare}
@@ -10,15 +10,14 @@ use Rattle.isa_terms.specs.Binding.{occurs, occurs_in, close_at}
 use Rattle.isa_terms.specs.Sets.{without}
 use Rattle.isa_terms.proofs.Equal.{ty_decides}
 use Rattle.isa_terms.proofs.Bare.{close_bare}
-use Rattle.isa_kernel.specs.Logic.{prop, imp, all, IsProposition}
+use Rattle.isa_kernel.specs.Logic.{prop, imp, all}
 use Rattle.isa_kernel.specs.Forms.{imp_parts, quantifier_parts}
-use Rattle.isa_kernel.specs.declared.axioms.NamedProp.{NamedProp}
 use Rattle.isa_kernel.specs.Derivation.{Member, Within}
 use Rattle.isa_kernel.specs.Theorem.{Theorem}
 use Rattle.isa_terms.specs.Normal.{IsHead}
 use Rattle.isa_kernel.specs.declared.inference.InferenceError.{InferenceError}
 use Rattle.isa_kernel.specs.declared.inference.InferenceError.TheVariants.{Shape, Memory}
-use Rattle.isa_kernel.specs.Inferences.{Answers, has_type, assumed, implies_introduced, forall_introduced, forall_eliminated}
+use Rattle.isa_kernel.specs.Inferences.{Answers, implies_introduced, forall_introduced, forall_eliminated}
 use Rattle.isa_kernel.proofs.Members.{Member-without, occurs_in_false}
 use Rattle.isa_kernel.proofs.Fill.{Var, types, filled, fill, fill_typed, IsNew, close_fill, longer_name}
 use Rattle.isa_kernel.proofs.Quantifier.{quantifier}
@@ -199,7 +198,7 @@ maps_next v vs (t ∷ ts) h = λ i. sym (fill_next [] v vs refl h.0) i ∷ maps_
 at_parameter : (n : ℕ) (vs : List Var) (hs : List Tm) (y : List ℕ) (S : Ty) (b w : Tm) → Typed (S ∷ types vs) b prop → AllTyped (types vs) hs → IsFresh n vs hs b w →
     Regains ((colons n, S) ∷ vs) (map (raise 1 0) hs) b w (regained (n + 1) (frees ((colons n, S) ∷ vs)) (map (fill ((colons n, S) ∷ vs) 0) (map (raise 1 0) hs)) b (under w (fill ((colons n, S) ∷ vs) 0 (gathered (map (raise 1 0) hs) b)))) →
     Regains vs hs (App (quantifier S) (Abs y S b)) w (option_and_then {T = Theorem} {U = Theorem} (λ x. option_and_then {T = Theorem} {U = Theorem} (λ z. forall_introduced (Free (colons n) S) z) (regained (n + 1) (Free (colons n) S ∷ frees vs) (map (fill vs 0) hs) b x))
-        (forall_eliminated (Free (colons n) S) (under w (fill vs 0 (App (quantifier S) (Abs y S (gathered (map (raise 1 0) hs) b)))))))
+    (forall_eliminated (Free (colons n) S) (under w (fill vs 0 (App (quantifier S) (Abs y S (gathered (map (raise 1 0) hs) b)))))))
 at_parameter n vs hs y S b w d h f r =
     let v : Var = (colons n, S) in
     let c : List ℕ = colons n in
@@ -243,7 +242,7 @@ all_short_append n (h ∷ hs) a s t = (s.0, all_short_append n hs a s.1 t)
 
 regained_abs : (f : Tm) (x : List ℕ) (S : Ty) (b : Tm) (n : ℕ) (vs : List Var) (hs : List Tm) (w : Tm) (o : Option (Ty × Tm)) → quantifier_parts (App f (Abs x S b)) ≡ o → Typed (types vs) (App f (Abs x S b)) prop → AllTyped (types vs) hs → IsFresh n vs hs (App f (Abs x S b)) w →
     (Typed (S ∷ types vs) b prop → AllTyped (S ∷ types vs) (map (raise 1 0) hs) → IsFresh (n + 1) ((colons n, S) ∷ vs) (map (raise 1 0) hs) b w →
-        Regains ((colons n, S) ∷ vs) (map (raise 1 0) hs) b w (regained (n + 1) (frees ((colons n, S) ∷ vs)) (map (fill ((colons n, S) ∷ vs) 0) (map (raise 1 0) hs)) b (under w (fill ((colons n, S) ∷ vs) 0 (gathered (map (raise 1 0) hs) b))))) →
+    Regains ((colons n, S) ∷ vs) (map (raise 1 0) hs) b w (regained (n + 1) (frees ((colons n, S) ∷ vs)) (map (fill ((colons n, S) ∷ vs) 0) (map (raise 1 0) hs)) b (under w (fill ((colons n, S) ∷ vs) 0 (gathered (map (raise 1 0) hs) b))))) →
     Regains vs hs (App f (Abs x S b)) w (elim o as (λ _. Option Theorem) [
       | None ↦ eliminated (map (fill vs 0) hs) (under w (fill vs 0 (elim o as (λ _. Tm) [ None ↦ implies hs (App f (Abs x S b)) | Some q ↦ App f (Abs x S (gathered (map (raise 1 0) hs) b)) ])))
       | Some k ↦ option_and_then {T = Theorem} {U = Theorem} (λ y. option_and_then {T = Theorem} {U = Theorem} (λ z. forall_introduced (Free (colons n) S) z) (regained (n + 1) (Free (colons n) S ∷ frees vs) (map (fill vs 0) hs) b y))
@@ -255,7 +254,7 @@ regained_abs f x S b n vs hs w (Some q) e d h r ih =
     let k : Typed (S ∷ types vs) b prop = (body_typed (subst (λ g. Typed (types vs) (App g (Abs x S b)) prop) c d)).1 in
     let s : IsFresh n vs hs b w = record { vars = r.vars; hyps = r.hyps; term = r.term.1; whole = r.whole } in
     subst (λ g. Regains vs hs (App g (Abs x S b)) w (option_and_then {T = Theorem} {U = Theorem} (λ y. option_and_then {T = Theorem} {U = Theorem} (λ z. forall_introduced (Free (colons n) S) z) (regained (n + 1) (Free (colons n) S ∷ frees vs) (map (fill vs 0) hs) b y))
-        (forall_eliminated (Free (colons n) S) (under w (fill vs 0 (App g (Abs x S (gathered (map (raise 1 0) hs) b)))))))) (sym c)
+    (forall_eliminated (Free (colons n) S) (under w (fill vs 0 (App g (Abs x S (gathered (map (raise 1 0) hs) b)))))))) (sym c)
     (at_parameter n vs hs x S b w k h s (ih k (all_raised (types vs) S hs h) (fresh_inside n vs hs S b w s)))
 
 regained_app : (f a : Tm) (n : ℕ) (vs : List Var) (hs : List Tm) (w : Tm) (o : Option (Tm × Tm)) → imp_parts (App f a) ≡ o → Typed (types vs) (App f a) prop → AllTyped (types vs) hs → IsFresh n vs hs (App f a) w →

@@ -1,25 +1,24 @@
 -- What brings a subgoal into its form, and that the subgoal follows from that.
 use Rattle.std.specs.Prelude.{option_and_then, codes}
-use Rattle.std.proofs.Common.{◌≡◌, inl, inr, ℕ, ◌+◌, ◌<◌, arith, append_assoc, append-nil, length, List, [], ◌∷◌, ◌++◌, map, Bool, true, false, cond, Option, Some, None, refl, sym, ap, ◌∙◌, subst}
+use Rattle.std.proofs.Common.{◌≡◌, inl, ℕ, ◌+◌, ◌<◌, arith, append_assoc, append-nil, List, [], ◌∷◌, ◌++◌, map, Bool, true, false, cond, Option, Some, None, refl, sym, ap, ◌∙◌, subst}
 use Rattle.isa_terms.specs.Types.{Ty}
 use Rattle.isa_terms.specs.Terms.{Tm, Const, Free, Unknown, Bound, Abs, App, bare}
 use Rattle.isa_terms.specs.Typing.{HasType, type_at, function_of}
 use Rattle.isa_terms.specs.Norm.{norm}
 use Rattle.isa_terms.specs.Normal.{IsNormal}
 use Rattle.isa_terms.specs.Equal.{tm_eq}
-use Rattle.isa_terms.specs.Instance.{Instance, instance_of, inst_tm}
+use Rattle.isa_terms.specs.Instance.{Instance}
 use Rattle.isa_terms.specs.Sets.{without}
 use Rattle.isa_terms.proofs.Bare.{tm_decides, type_at_bare}
 use Rattle.isa_kernel.specs.Logic.{prop, imp, IsProposition}
 use Rattle.isa_kernel.specs.Forms.{imp_parts, quantifier_parts}
 use Rattle.isa_kernel.specs.declared.axioms.NamedProp.{NamedProp}
-use Rattle.isa_kernel.specs.Axioms.{joined_bases}
-use Rattle.isa_kernel.specs.Derivation.{Member, Within, Derives}
+use Rattle.isa_kernel.specs.Derivation.{Derives}
 use Rattle.isa_kernel.specs.Theorem.{Theorem, IsDerived}
 use Rattle.isa_kernel.specs.Inferences.{assumed, implies_introduced, forall_introduced, forall_eliminated, instantiated}
 use Rattle.isa_kernel.proofs.Sound.{assumed_sound, implies_introduced_sound, forall_introduced_sound, forall_eliminated_sound}
 use Rattle.isa_kernel.proofs.Instances.{instantiated_sound}
-use Rattle.isa_kernel.proofs.Fill.{types, fill}
+use Rattle.isa_kernel.proofs.Fill.{fill}
 use Rattle.isa_kernel.proofs.Closed.{fill_none}
 use Rattle.isa_conversion.proofs.Functions.{bind_some}
 use Rattle.isa_conversion.proofs.Typed.{Typed, type_of_typed, typed_of_type}
@@ -176,7 +175,7 @@ reshaped_by_is us (t ∷ ts) B g w v n =
 
     go : (b : Bool) → ((s : Tm) → IsProposition s → reshaped_by (us ++ s ∷ []) ts (whole (us ++ s ∷ []) ts B g) ≡ Some (whole (us ++ s ∷ []) (map shaped ts) B g)) →
         cond b (reshaped_by (us ++ t ∷ []) ts (whole us (t ∷ ts) B g))
-            (option_and_then {T = Theorem} {U = Theorem} (λ rule. option_and_then {T = Theorem} {U = Theorem} (λ x. reshaped_by (us ++ cond b t (norm (moved t)) ∷ []) ts x) (cut us (cond b t (norm (moved t)) ∷ []) (whole us (t ∷ ts) B g) rule)) (regaining t))
+        (option_and_then {T = Theorem} {U = Theorem} (λ rule. option_and_then {T = Theorem} {U = Theorem} (λ x. reshaped_by (us ++ cond b t (norm (moved t)) ∷ []) ts x) (cut us (cond b t (norm (moved t)) ∷ []) (whole us (t ∷ ts) B g) rule)) (regaining t))
         ≡ Some (whole us (cond b t (norm (moved t)) ∷ map shaped ts) B g)
     go true ih = next t (ih t v.0)
     go false ih =

@@ -1,13 +1,12 @@
 -- What the rules give follows.
 use Rattle.std.specs.Prelude.{option_and_then, option_map}
-use Rattle.std.proofs.Common.{◌≡◌, ℕ, List, [], ◌∷◌, map, length, Bool, true, false, cond, Option, Some, None, refl, sym, ap, ◌∙◌, subst}
-use Rattle.isa_terms.specs.Terms.{Tm, bare}
+use Rattle.std.proofs.Common.{◌≡◌, ℕ, List, [], ◌∷◌, map, length, Bool, true, false, cond, Option, Some, None, refl, subst}
+use Rattle.isa_terms.specs.Terms.{Tm}
 use Rattle.isa_terms.specs.Instance.{Instance}
-use Rattle.isa_terms.specs.declared.inst.TermEntry.{TermEntry}
 use Rattle.isa_kernel.specs.Axioms.{propositions}
 use Rattle.isa_kernel.specs.Theorem.{Theorem, IsDerived, AreDerived}
-use Rattle.isa_kernel.specs.Inferences.{assumed, implies_introduced, implies_eliminated, instantiated}
-use Rattle.isa_kernel.proofs.Sound.{assumed_sound, implies_introduced_sound, implies_eliminated_sound}
+use Rattle.isa_kernel.specs.Inferences.{assumed, implies_eliminated, instantiated}
+use Rattle.isa_kernel.proofs.Sound.{assumed_sound, implies_eliminated_sound}
 use Rattle.isa_kernel.proofs.Instances.{instantiated_sound}
 use Rattle.isa_kernel.proofs.Members.{bases_left, bases_right}
 use Rattle.isa_conversion.proofs.Functions.{bind_some}

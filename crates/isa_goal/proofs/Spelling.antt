@@ -5,7 +5,7 @@ use Rattle.isa_terms.specs.Types.{Ty}
 use Rattle.isa_terms.specs.Terms.{Tm, Const, Free, Unknown, Bound, Abs, App}
 use Rattle.isa_terms.specs.Typing.{function_of}
 use Rattle.isa_terms.specs.Replace.{raise}
-use Rattle.isa_kernel.specs.Logic.{prop, imp, all}
+use Rattle.isa_kernel.specs.Logic.{prop}
 use Rattle.isa_kernel.specs.Forms.{imp_parts, quantifier_parts}
 use Rattle.isa_kernel.proofs.Parts.{imp_made}
 use Rattle.isa_kernel.proofs.Quantifier.{quantifier, quantifier_made}

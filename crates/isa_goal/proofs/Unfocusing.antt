@@ -1,22 +1,19 @@
 -- What follows from a subgoal alone follows when it is put back.
-use Rattle.std.specs.Prelude.{codes, option_and_then}
-use Rattle.std.proofs.Common.{◌≡◌, ◌⊎◌, inl, inr, ℕ, zero, suc, ◌+◌, ◌-◌, arith, length, List, [], ◌∷◌, ◌++◌, map, take, drop, Bool, true, Option, Some, None, refl, sym, ap, ◌∙◌, subst}
+use Rattle.std.proofs.Common.{◌≡◌, ◌⊎◌, inl, inr, ℕ, suc, ◌-◌, arith, length, List, [], ◌∷◌, ◌++◌, map, take, drop, Some, None, refl, sym, ap, ◌∙◌, subst}
 use Rattle.std.proofs.lemmas.List.{take-append-drop, length-append}
 use Rattle.isa_terms.specs.Types.{Ty}
 use Rattle.isa_terms.specs.Terms.{Tm, Const, Free, Unknown, Bound, Abs, App, bare}
 use Rattle.isa_terms.specs.Instance.{Instance, instance_of}
-use Rattle.isa_terms.proofs.Bare.{type_at_bare}
-use Rattle.isa_kernel.specs.Logic.{prop, imp, IsProposition}
+use Rattle.isa_kernel.specs.Logic.{imp, IsProposition}
 use Rattle.isa_kernel.specs.Forms.{imp_parts}
-use Rattle.isa_kernel.specs.Derivation.{Member, Within, Derives}
-use Rattle.isa_kernel.specs.Inferences.{keeps}
+use Rattle.isa_kernel.specs.Derivation.{Member, Within}
 use Rattle.isa_kernel.proofs.Members.{bares}
 use Rattle.isa_conversion.proofs.Functions.{bind_some}
 use Rattle.isa_goal.specs.Goals.{Goals, implies, IsStanding, around}
 use Rattle.isa_goal.specs.Follows.{Each, Follows, Reduces}
 use Rattle.isa_goal.specs.Names.{canon}
 use Rattle.isa_goal.specs.Focus.{focused, leading, put_back, unfocused}
-use Rattle.isa_goal.proofs.Deriving.{ArePropositions, implies_bare, implies_proposition, derived_propositions, propositions_append, propositions_left, propositions_right, propositions_bare, propositions_member, derive_more, derive_assume}
+use Rattle.isa_goal.proofs.Deriving.{ArePropositions, implies_proposition, derived_propositions, propositions_append, propositions_left, propositions_right, propositions_bare, propositions_member, derive_assume}
 use Rattle.isa_goal.proofs.Refining.{around_made, standing_propositions}
 use Rattle.isa_goal.proofs.Following.{From, from_all, each_of, of_each, under, bare_member, instance_implies}
 use Rattle.isa_goal.proofs.Numbers.{canon_follows}

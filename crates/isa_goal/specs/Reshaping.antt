@@ -1,6 +1,5 @@
 -- The inferences that bring a subgoal into its form.
-use Rattle.std.specs.Prelude.{ℕ, zero, suc, ◌+◌, ◌-◌, nat_lt, List, [], ◌∷◌, ◌++◌, map, slice_get, unwrap_or, length, if◌then◌else◌, Option, Some, None}
-use Rattle.isa_terms.specs.Types.{Ty}
+use Rattle.std.specs.Prelude.{ℕ, zero, suc, ◌+◌, ◌-◌, nat_lt, List, [], ◌∷◌, ◌++◌, slice_get, unwrap_or, length, if◌then◌else◌, Option, Some, None}
 use Rattle.isa_terms.specs.Terms.{Tm, Const, Free, Unknown, Bound, Abs, App}
 use Rattle.isa_kernel.specs.Forms.{◌>>=◌, imp_parts, quantifier_parts}
 use Rattle.isa_kernel.specs.Theorem.{Theorem}
@@ -36,15 +35,15 @@ unfoldable pub regained : ℕ → List Tm → List Tm → Tm → Theorem → Opt
 regained n vs hs (App f (Abs x T b)) th = elim (quantifier_parts (App f (Abs x T b))) [
   | None ↦ eliminated hs th
   | Some q ↦ do
-      inner ← forall_eliminated (Free (colons n) T) th
-      whole ← regained (n + 1) (Free (colons n) T ∷ vs) hs b inner
-      forall_introduced (Free (colons n) T) whole
+    inner ← forall_eliminated (Free (colons n) T) th
+    whole ← regained (n + 1) (Free (colons n) T ∷ vs) hs b inner
+    forall_introduced (Free (colons n) T) whole
 ]
 regained n vs hs (App f a) th = elim (imp_parts (App f a)) [
   | None ↦ eliminated hs th
   | Some p ↦ do
-      inner ← regained n vs (hs ++ opened vs 0 p.0 ∷ []) a th
-      implies_introduced (opened vs 0 p.0) inner
+    inner ← regained n vs (hs ++ opened vs 0 p.0 ∷ []) a th
+    implies_introduced (opened vs 0 p.0) inner
 ]
 regained n vs hs t th = eliminated hs th
 

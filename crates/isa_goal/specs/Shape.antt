@@ -1,7 +1,7 @@
 -- The form of a subgoal: `!!`s, then `==>`s, then a conclusion that is neither.
-use Rattle.std.specs.Prelude.{◌≡◌, ◌+◌, List, [], ◌∷◌, ◌++◌, map, Bool, true, ◌||◌, if◌then◌else◌, Some, None, is_some, not, codes}
+use Rattle.std.specs.Prelude.{◌≡◌, List, [], ◌∷◌, ◌++◌, map, Bool, true, ◌||◌, if◌then◌else◌, Some, None, is_some, not, codes}
 use Rattle.isa_terms.specs.Types.{Ty}
-use Rattle.isa_terms.specs.Terms.{Tm, Const, Free, Unknown, Bound, Abs, App}
+use Rattle.isa_terms.specs.Terms.{Tm, Bound, Abs, App}
 use Rattle.isa_terms.specs.Replace.{raise}
 use Rattle.isa_terms.specs.Norm.{norm}
 use Rattle.isa_terms.specs.Normal.{IsNormal}

@@ -156,7 +156,12 @@ impl Draft {
     }
 
     /// So many premises taken out of the goal, the first ones in front of the subgoals.
-    pub(crate) fn put_back(&self, alloc: Global, others: usize, front: usize) -> Result<Draft, AllocError>
+    pub(crate) fn put_back(
+        &self,
+        alloc: Global,
+        others: usize,
+        front: usize,
+    ) -> Result<Draft, AllocError>
         ensures { IfOk result (λ t. t ≡ put_back others front self.now) }
     {
         self.is_standing();

@@ -4,13 +4,13 @@ ghost use Rattle.isa_terms.specs.Terms.{Free};
 ghost use Rattle.isa_kernel.specs.Inferences.{Answers};
 ghost use Rattle.isa_goal.specs.Reshaping.{opened, name_lengths, colons, regained, regaining, reshaped_by};
 
+use crate::quantifier::split_quantifier;
 use crate::shape::{gathered, is_in_form, shaped, spelled};
 use crate::steps::{cut, eliminate, spliced};
 use isa_kernel::{
     InferenceError, Thm, assume, forall_elim, forall_intr, implies_intr, instantiate_thm, split_imp,
 };
 use isa_terms::{Inst, Name, Term, TermNode, Terms, Typ, copied};
-use crate::quantifier::split_quantifier;
 use std::alloc::{AllocError, Global};
 
 /// The terms, the innermost first, in the place of the binders round `depth` binders.

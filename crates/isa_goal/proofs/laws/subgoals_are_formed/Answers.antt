@@ -1,4 +1,4 @@
-use Rattle.std.proofs.Common.{◌≡◌, Bool, cond, ap}
+use Rattle.std.proofs.Common.{Bool, cond, ap}
 use Rattle.isa_goal.specs.Shape.{moved}
 use Rattle.isa_terms.specs.Norm.{norm}
 use Rattle.isa_goal.proofs.InForm.{shaped_in_form}

@@ -1,8 +1,4 @@
-use Rattle.std.proofs.Common.{rules, ◌≡◌, ◌++◌, [], ◌∷◌, Some}
-use Rattle.std.specs.Prelude.{Result, Err}
-use Rattle.isa_kernel.specs.declared.inference.InferenceError.{InferenceError}
-use Rattle.isa_kernel.specs.Inferences.{Answers}
-use Rattle.isa_goal.specs.Reshaping.{regained}
+use Rattle.std.proofs.Common.{rules, ◌++◌, [], ◌∷◌}
 use Rattle.isa_goal.proofs.Heads.{head_of}
 use Rattle.isa_goal.proofs.Regaining.{parameter_err, parameter_ok, premise_err, premise_ok}
 use Rattle.isa_goal.proofs.reshaping.+regain.Goals as goal

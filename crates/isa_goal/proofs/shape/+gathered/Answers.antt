@@ -1,4 +1,4 @@
-use Rattle.std.proofs.Common.{rules, ◌≡◌, ◌++◌, [], ◌∷◌, Some, IfOk, subst}
+use Rattle.std.proofs.Common.{rules, ◌≡◌, ◌++◌, [], ◌∷◌, IfOk, subst}
 use Rattle.isa_terms.specs.Terms.{Tm, Abs, App}
 use Rattle.isa_goal.specs.Shape.{gathered}
 use Rattle.isa_goal.proofs.Heads.{head_of}

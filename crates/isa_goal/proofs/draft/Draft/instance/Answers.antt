@@ -1,4 +1,4 @@
-use Rattle.std.proofs.Common.{rules, ◌≡◌, Some, length, map, sym, subst}
+use Rattle.std.proofs.Common.{rules, ◌≡◌, Some, length, sym, subst}
 use Rattle.isa_terms.specs.Instance.{instance_of}
 use Rattle.isa_kernel.specs.Inferences.{instantiated}
 use Rattle.isa_goal.specs.Goals.{Goals, Proves}
