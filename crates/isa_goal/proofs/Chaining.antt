@@ -1,37 +1,31 @@
 -- What follows from what follows.
-use Rattle.std.proofs.Common.{◌≡◌, ◌⊎◌, inl, inr, List, [], ◌∷◌, ◌++◌, map, Bool, true, false, ◌&&◌, Option, Some, refl, sym, ap, ◌∙◌, subst}
+use Rattle.std.proofs.Common.{◌≡◌, inl, inr, List, [], ◌∷◌, map, true, ◌&&◌, refl, sym, ap, ◌∙◌, subst}
 use Rattle.isa_terms.specs.Types.{Ty}
 use Rattle.isa_terms.specs.Terms.{Tm, bare}
-use Rattle.isa_terms.specs.Equal.{ty_eq}
 use Rattle.isa_terms.specs.Typing.{HasType, type_at}
-use Rattle.isa_terms.specs.Instance.{Instance, instance_of, inst_ty, inst_tm}
+use Rattle.isa_terms.specs.Instance.{Instance, instance_of, inst_ty}
 use Rattle.isa_terms.specs.declared.inst.TypeEntry.{TypeEntry}
 use Rattle.isa_terms.specs.declared.inst.TermEntry.{TermEntry}
 use Rattle.isa_terms.proofs.Bare.{type_at_bare}
 use Rattle.isa_terms.proofs.Equal.{ty_decides}
-use Rattle.isa_conversion.specs.Instances.{IsKept, KeepsTypes, followed_by, Each}
-use Rattle.isa_conversion.proofs.Typed.{Typed, type_of_typed, typed_of_type}
+use Rattle.isa_conversion.specs.Instances.{IsKept, followed_by, Each}
+use Rattle.isa_conversion.proofs.Typed.{type_of_typed, typed_of_type}
 use Rattle.isa_conversion.proofs.Instances.{inst_typed, inst_bare_same, inst_norm_typed}
 use Rattle.isa_conversion.proofs.Normal.{norm_normal}
 use Rattle.isa_terms.specs.Normal.{IsNormal}
 use Rattle.isa_conversion.proofs.Laws.{instances_compose_law}
 use Rattle.isa_kernel.specs.Logic.{prop, IsProposition}
 use Rattle.isa_kernel.specs.Derivation.{Member, Derives}
-use Rattle.isa_kernel.specs.Inferences.{keeps, has_type, typed_as}
+use Rattle.isa_kernel.specs.Inferences.{keeps, typed_as}
 use Rattle.isa_kernel.proofs.Members.{bares}
-use Rattle.isa_kernel.proofs.Sound.{has_type_is}
 use Rattle.isa_goal.specs.Goals.{Goals, implies, IsStanding}
-use Rattle.isa_goal.specs.Names.{naming, renamed, canon}
-use Rattle.isa_goal.specs.Follows.{Follows, IsNormalState}
+use Rattle.isa_goal.specs.Shape.{reshaped}
+use Rattle.isa_goal.specs.Names.{naming, normalised, canon}
+use Rattle.isa_goal.specs.Follows.{Follows, IsNormalState, instanced}
 use Rattle.isa_goal.specs.Follows as follows
 use Rattle.isa_goal.proofs.Deriving.{ArePropositions, implies_bare, derived_propositions, propositions_member}
 use Rattle.isa_goal.proofs.Following.{From, each_of, of_each, chain, map_member, from_instance}
-use Rattle.isa_goal.proofs.Matches.{both_true}
-use Rattle.isa_goal.proofs.Numbers.{naming_keeps}
-
-pub is_kept : (es : List TypeEntry) (fs : List TermEntry) → keeps es fs ≡ true → IsKept es fs
-is_kept es [] k = tt
-is_kept es (f ∷ fs) k = let p = both_true (has_type f.term (inst_ty es f.typ)) (keeps es fs) k in (has_type_is f.term (inst_ty es f.typ) p.0, is_kept es fs p.1)
+use Rattle.isa_goal.proofs.Numbers.{naming_keeps, is_kept, form_propositions}
 
 pub kept_keeps : (es : List TypeEntry) (fs : List TermEntry) → IsKept es fs → keeps es fs ≡ true
 kept_keeps es [] k = refl
@@ -88,7 +82,7 @@ map_propositions n [] k w = tt
 map_propositions n (t ∷ ts) k w = (instance_proposition n t k w.0, map_propositions n ts k w.1)
 
 pub canon_propositions : (s : Goals) → ArePropositions s.subgoals → ArePropositions (canon s).subgoals
-canon_propositions s w = map_propositions (naming s) s.subgoals (naming_keeps s) w
+canon_propositions s w = map_propositions (naming (reshaped (normalised s))) (reshaped (normalised s)).subgoals (naming_keeps (reshaped (normalised s))) (form_propositions s w)
 
 instance_normal : (n : Instance) (t : Tm) → keeps n.types n.terms ≡ true → IsProposition t → IsNormal (instance_of n t)
 instance_normal n t k h = norm_normal (inst_typed n.types n.terms (is_kept n.types n.terms k) (typed_of_type [] t prop h))
@@ -97,11 +91,17 @@ map_normal : (n : Instance) (ts : List Tm) → keeps n.types n.terms ≡ true �
 map_normal n [] k w = tt
 map_normal n (t ∷ ts) k w = (instance_normal n t k w.0, map_normal n ts k w.1)
 
--- a state with its unknowns named is normal
-pub renamed_normal : (s : Goals) → IsStanding s → IsNormalState (renamed s)
-renamed_normal s d =
-    let p = derived_propositions s.subgoals s.goal d.derivation in
-    record { subgoals = map_normal (naming s) s.subgoals (naming_keeps s) p.0; goal = instance_normal (naming s) s.goal (naming_keeps s) p.1 }
+-- a state under an instance is normal
+instanced_normal : (n : Instance) (s : Goals) → keeps n.types n.terms ≡ true → ArePropositions s.subgoals → IsProposition s.goal → IsNormalState (instanced n s)
+instanced_normal n s k w h = record { subgoals = map_normal n s.subgoals k w; goal = instance_normal n s.goal k h }
 
-pub canon_normal : (s t : Goals) → IsStanding s → Some (canon s) ≡ Some t → IsNormalState t
-canon_normal s t d e = let q : canon s ≡ t = cc (e) in subst (λ x. IsNormalState x) q (renamed_normal s d)
+pub normalised_normal : (s t : Goals) → IsStanding s → t ≡ normalised s → IsNormalState t
+normalised_normal s t d e =
+    let p = derived_propositions s.subgoals s.goal d.derivation in
+    subst (λ x. IsNormalState x) (sym e) (instanced_normal (record { types = []; terms = [] }) s refl p.0 p.1)
+
+pub canon_normal : (s t : Goals) → IsStanding s → t ≡ canon s → IsNormalState t
+canon_normal s t d e =
+    let p = derived_propositions s.subgoals s.goal d.derivation in
+    let u : Goals = reshaped (normalised s) in
+    subst (λ x. IsNormalState x) (sym e) (instanced_normal (naming u) u (naming_keeps u) (form_propositions s p.0) (instance_proposition (record { types = []; terms = [] }) s.goal refl p.1))

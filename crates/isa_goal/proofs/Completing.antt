@@ -1,6 +1,6 @@
 -- A match is found where there is one.
 use Rattle.std.proofs.Common.{◌≡◌, ℕ, List, [], ◌∷◌, ◌++◌, Bool, true, false, cond, ◌&&◌, nat_eq, arith, Option, Some, None, refl, sym, ap, ◌∙◌, subst}
-use Rattle.std.specs.Prelude.{is_none, option_and_then, slice_get, Ok}
+use Rattle.std.specs.Prelude.{is_none, option_and_then, Ok}
 use Rattle.std.specs.Cmp.Lexicographic.{bytes_decides}
 use Rattle.std.proofs.lemmas.Bool.Decides.{nat_tests}
 use Rattle.isa_terms.specs.Types.{Ty}
@@ -9,7 +9,7 @@ use Rattle.isa_terms.specs.Equal.{name_eq, ty_eq, tm_eq}
 use Rattle.isa_terms.specs.Typing.{function_of, function_parts, type_at}
 use Rattle.isa_terms.specs.Norm.{levels}
 use Rattle.isa_terms.specs.Normal.{IsHead}
-use Rattle.isa_terms.specs.Instance.{Instance, instance_of, find_term, inst_ty, inst_tm}
+use Rattle.isa_terms.specs.Instance.{Instance, instance_of, find_term, inst_ty}
 use Rattle.isa_terms.specs.declared.inst.TermEntry.{TermEntry}
 use Rattle.isa_terms.proofs.Bare.{tm_decides, type_at_bare}
 use Rattle.isa_terms.proofs.Equal.{ty_decides}
@@ -21,7 +21,7 @@ use Rattle.isa_kernel.specs.Inferences.{has_type, typed_as, keeps}
 use Rattle.isa_kernel.proofs.Preserved.{app_typed}
 use Rattle.isa_goal.specs.Matching.{is_ground, is_first_order, matched_unknown, matched}
 use Rattle.isa_goal.proofs.Matches.{both_true, ground_same}
-use Rattle.isa_goal.proofs.Chaining.{is_kept}
+use Rattle.isa_goal.proofs.Numbers.{is_kept}
 
 -- what the entries give, the instance gives
 record Agrees (n : Instance) (fs : List TermEntry) : Type 0 where

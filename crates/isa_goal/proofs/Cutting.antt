@@ -1,19 +1,19 @@
 -- What the inferences behind a step answer.
-use Rattle.std.proofs.Common.{◌≡◌, ◌⊎◌, inl, inr, List, [], ◌∷◌, ◌++◌, map, Bool, true, false, cond, Option, Some, None, refl, sym, ap, ◌∙◌, subst, append-nil}
+use Rattle.std.proofs.Common.{◌≡◌, inl, inr, List, [], ◌∷◌, ◌++◌, map, Bool, true, false, cond, Some, None, refl, sym, ap, ◌∙◌, subst, append-nil}
 use Rattle.std.specs.Prelude.{option_and_then}
-use Rattle.isa_terms.specs.Terms.{Tm, bare}
+use Rattle.isa_terms.specs.Terms.{Tm}
 use Rattle.isa_terms.specs.Equal.{tm_eq}
 use Rattle.isa_terms.specs.Sets.{has, missing, joined, without}
-use Rattle.isa_terms.specs.Typing.{HasType}
-use Rattle.isa_kernel.specs.Logic.{prop, imp, IsProposition}
+use Rattle.isa_kernel.specs.Logic.{prop, imp}
 use Rattle.isa_kernel.specs.declared.axioms.NamedProp.{NamedProp}
 use Rattle.isa_kernel.specs.Axioms.{joined_bases}
 use Rattle.isa_kernel.specs.Derivation.{Member, Within}
-use Rattle.isa_kernel.specs.Theorem.{Theorem}
+use Rattle.isa_kernel.specs.Theorem.{Theorem, IsDerived}
 use Rattle.isa_kernel.specs.Inferences.{has_type, assumed, implies_introduced, implies_eliminated}
-use Rattle.isa_conversion.proofs.Functions.{cond_some}
-use Rattle.isa_kernel.proofs.Members.{Member-left, Member-right, Member-split, Within-append, Member-without}
-use Rattle.isa_goal.specs.Goals.{Goals, implies, theorem_of, Proves}
+use Rattle.isa_kernel.proofs.Sound.{assumed_sound, implies_introduced_sound, implies_eliminated_sound}
+use Rattle.isa_conversion.proofs.Functions.{bind_some, cond_some}
+use Rattle.isa_kernel.proofs.Members.{Member-left, Member-right, Within-append, Member-without}
+use Rattle.isa_goal.specs.Goals.{implies, Proves}
 use Rattle.isa_goal.specs.Steps.{eliminated, introduced, cut, met_under, raised}
 use Rattle.isa_goal.proofs.Deriving.{tm_eq_same, has_type_of, ArePropositions, implies_append, implies_proposition, propositions_under}
 
@@ -163,3 +163,19 @@ raised_is hs ps B q w v =
 
 pub started_fits : (t g : Tm) (ss : List Tm) (a th : Theorem) → assumed t ≡ Some a → implies_introduced t a ≡ Some th → ss ≡ t ∷ [] → g ≡ t → Proves th (record { subgoals = ss; goal = g; base = th.base })
 started_fits t g ss a th e f s h = subst (λ x. Proves th (record { subgoals = x; goal = g; base = th.base })) (sym s) (subst (λ x. Proves th (record { subgoals = t ∷ []; goal = x; base = th.base })) (sym h) (started_proves t a th e f))
+
+-- ---- what the inferences give is derived
+pub eliminated_sound : (ps : List Tm) (th x : Theorem) → eliminated ps th ≡ Some x → IsDerived th → IsDerived x
+unfolding eliminated
+eliminated_sound [] th x e d = subst (λ y. IsDerived y) (cc (e)) d
+eliminated_sound (p ∷ ps) th x e d =
+    let a = bind_some (assumed p) _ e in
+    let n = bind_some (implies_eliminated th a.0) _ a.2 in
+    eliminated_sound ps n.0 x n.2 (implies_eliminated_sound th a.0 n.0 n.1 d (assumed_sound p a.0 a.1))
+
+pub introduced_sound : (ps : List Tm) (th x : Theorem) → introduced ps th ≡ Some x → IsDerived th → IsDerived x
+unfolding introduced
+introduced_sound [] th x e d = subst (λ y. IsDerived y) (cc (e)) d
+introduced_sound (p ∷ ps) th x e d =
+    let i = bind_some (introduced ps th) _ e in
+    implies_introduced_sound p i.0 x i.2 (introduced_sound ps th i.0 i.1 d)

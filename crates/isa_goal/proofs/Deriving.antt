@@ -1,21 +1,19 @@
 -- Derivations with a list of hypotheses.
 use Rattle.std.specs.Prelude.{codes}
-use Rattle.std.proofs.Common.{◌≡◌, ◌⊎◌, inl, inr, List, [], ◌∷◌, ◌++◌, map, Bool, true, false, refl, sym, ap, ◌∙◌, subst}
+use Rattle.std.proofs.Common.{◌≡◌, inl, inr, List, [], ◌∷◌, ◌++◌, map, true, false, refl, sym, ap, ◌∙◌, subst}
 use Rattle.isa_terms.specs.Terms.{Tm, bare}
 use Rattle.isa_terms.specs.Equal.{tm_eq}
 use Rattle.isa_terms.specs.Sets.{without}
 use Rattle.isa_terms.proofs.Bare.{tm_decides, type_at_bare}
 use Rattle.isa_terms.specs.Typing.{HasType}
 use Rattle.isa_kernel.specs.Logic.{prop, imp, IsProposition}
-use Rattle.isa_kernel.specs.Derivation.{Member, Within, Tree, Assumption, ImpliesIntro, ImpliesElim, Derives}
-use Rattle.isa_kernel.specs.Theorem.{Theorem, IsDerived}
+use Rattle.isa_kernel.specs.Derivation.{Member, Within, Assumption, ImpliesIntro, ImpliesElim, Derives}
 use Rattle.isa_kernel.specs.Inferences.{has_type, typed_as}
-use Rattle.isa_kernel.proofs.Members.{bares, Member-left, Member-right, Within-append, Member-without}
+use Rattle.isa_kernel.proofs.Members.{bares, Within-append, Member-without}
 use Rattle.isa_kernel.proofs.Rules.{tree_more}
-use Rattle.isa_kernel.proofs.Sound.{has_type_is}
 use Rattle.isa_conversion.proofs.Typed.{Typed, TConst, TApp, type_of_typed, typed_of_type}
 use Rattle.isa_kernel.proofs.Preserved.{derived_typed, imp_both}
-use Rattle.isa_goal.specs.Goals.{Goals, implies, IsStanding}
+use Rattle.isa_goal.specs.Goals.{implies}
 
 pub tm_eq_same : (t : Tm) → tm_eq t t ≡ true
 tm_eq_same t = (tm_decides t t).1 refl

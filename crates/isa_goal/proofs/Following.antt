@@ -1,5 +1,5 @@
 -- States that follow from others.
-use Rattle.std.proofs.Common.{◌≡◌, ◌⊎◌, inl, inr, ℕ, List, [], ◌∷◌, ◌++◌, map, Bool, true, false, cond, ◌&&◌, Option, Some, None, refl, sym, ap, ◌∙◌, subst}
+use Rattle.std.proofs.Common.{◌≡◌, ◌⊎◌, inl, inr, ℕ, List, [], ◌∷◌, ◌++◌, map, true, false, cond, ◌&&◌, Some, None, refl, sym, ap, ◌∙◌, subst}
 use Rattle.isa_terms.specs.Types.{Ty, Tys, TyCon, TyFixed, TyUnknown, NoTys, MoreTys}
 use Rattle.isa_terms.specs.Terms.{Tm, Const, Free, Unknown, Bound, Abs, App, bare}
 use Rattle.isa_terms.specs.Equal.{tm_eq}
@@ -7,7 +7,7 @@ use Rattle.isa_terms.specs.Instance.{Instance, instance_of, inst_ty, inst_tys, i
 use Rattle.isa_terms.proofs.Bare.{tm_decides, type_at_bare}
 use Rattle.isa_terms.specs.Norm.{norm}
 use Rattle.isa_terms.specs.Normal.{IsNormal}
-use Rattle.isa_kernel.specs.Logic.{prop, imp, eq, IsProposition}
+use Rattle.isa_kernel.specs.Logic.{prop, imp, eq}
 use Rattle.isa_kernel.specs.Axioms.{propositions}
 use Rattle.isa_kernel.specs.declared.axioms.NamedProp.{NamedProp}
 use Rattle.isa_kernel.specs.Derivation.{Member, Within, Tree, EqualElim, Derives}
@@ -25,7 +25,7 @@ use Rattle.isa_terms.specs.Typing.{HasType}
 use Rattle.isa_conversion.proofs.Normal.{norm_same}
 use Rattle.isa_goal.specs.Goals.{Goals, implies, IsStanding, around, rule_form, refined}
 use Rattle.isa_goal.specs.Follows.{Each, Follows, Reduces, instanced, IsNormalState}
-use Rattle.isa_goal.proofs.Deriving.{ArePropositions, propositions_append, propositions_left, propositions_right, propositions_bare, propositions_member, implies_bare, derived_propositions, derive_more, derive_assume, derive_intros, derive_elims}
+use Rattle.isa_goal.proofs.Deriving.{ArePropositions, propositions_append, propositions_left, propositions_right, propositions_bare, propositions_member, implies_bare, derive_more, derive_assume, derive_intros, derive_elims}
 use Rattle.isa_goal.proofs.Refining.{around_made, rule_made, standing_propositions, rule_propositions, placed}
 
 -- ---- derivations of `ps ==> q`
@@ -164,7 +164,7 @@ mutual
   empty_tys NoTys = refl
   empty_tys (MoreTys T Ts) = λ i. MoreTys (empty_ty T i) (empty_tys Ts i)
 
-empty_tm : (t : Tm) → inst_tm [] [] t ≡ t
+pub empty_tm : (t : Tm) → inst_tm [] [] t ≡ t
 empty_tm (Const x T) = ap (Const x) (empty_ty T)
 empty_tm (Free x T) = ap (Free x) (empty_ty T)
 empty_tm (Unknown x n T) = ap (Unknown x n) (empty_ty T)

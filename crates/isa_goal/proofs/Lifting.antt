@@ -1,20 +1,17 @@
 -- What the inferences behind a resolution answer.
-use Rattle.std.proofs.Common.{◌≡◌, ℕ, List, [], ◌∷◌, ◌++◌, map, length, Bool, true, false, cond, ◌&&◌, Option, Some, None, refl, sym, ap, ◌∙◌, subst}
-use Rattle.std.specs.Prelude.{option_and_then, option_map}
-use Rattle.isa_terms.specs.Types.{Ty}
-use Rattle.isa_terms.specs.Terms.{Tm, Const, Free, Unknown, Bound, Abs, App, bare}
-use Rattle.isa_terms.specs.Equal.{ty_eq}
+use Rattle.std.proofs.Common.{◌≡◌, ℕ, List, [], ◌∷◌, ◌++◌, map, length, true, ◌&&◌, Some, refl, sym, ap, ◌∙◌, subst}
+use Rattle.std.specs.Prelude.{option_and_then}
+use Rattle.isa_terms.specs.Terms.{Tm, Const, Free, Unknown, Bound, Abs, App}
 use Rattle.isa_terms.specs.Instance.{Instance, instance_of, inst_ty}
 use Rattle.isa_terms.specs.declared.inst.TypeEntry.{TypeEntry}
 use Rattle.isa_terms.specs.declared.inst.TermEntry.{TermEntry}
 use Rattle.isa_terms.proofs.Equal.{ty_decides}
-use Rattle.isa_kernel.specs.Logic.{prop, imp, IsProposition}
-use Rattle.isa_kernel.specs.Derivation.{Member}
+use Rattle.isa_kernel.specs.Logic.{prop, IsProposition}
 use Rattle.isa_kernel.specs.Theorem.{Theorem, IsDerived}
-use Rattle.isa_kernel.specs.Inferences.{keeps, has_type, instantiated}
+use Rattle.isa_kernel.specs.Inferences.{keeps, instantiated}
 use Rattle.isa_kernel.proofs.Instances.{instantiated_sound}
 use Rattle.isa_conversion.proofs.Typed.{typed_of_type}
-use Rattle.isa_goal.specs.Goals.{Goals, implies, premises, conclusion, premises_of, rule_form, IsStanding, around}
+use Rattle.isa_goal.specs.Goals.{Goals, implies, premises, conclusion, premises_of, IsStanding, around}
 use Rattle.isa_goal.specs.Names.{unknowns_in, set_terms}
 use Rattle.isa_goal.specs.Steps.{raised, raised_rule}
 use Rattle.isa_goal.specs.Matching.{matched, is_first_order}

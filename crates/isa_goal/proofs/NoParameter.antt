@@ -1,5 +1,5 @@
 -- Lifting over no parameter.
-use Rattle.std.proofs.Common.{◌≡◌, ℕ, ◌+◌, List, [], ◌∷◌, map, refl, sym, ap, ◌∙◌}
+use Rattle.std.proofs.Common.{◌≡◌, ℕ, ◌+◌, List, [], ◌∷◌, map, refl, ap}
 use Rattle.isa_terms.specs.Terms.{Tm, Const, Free, Unknown, Bound, Abs, App}
 use Rattle.isa_goal.specs.Goals.{implies, premises, conclusion}
 use Rattle.isa_goal.specs.Lift.{lift, lift_over, LiftedOverNoParameter}

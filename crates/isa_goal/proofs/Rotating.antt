@@ -1,12 +1,12 @@
 -- Subgoals that change places.
-use Rattle.std.specs.Prelude.{option_and_then, is_some}
-use Rattle.std.proofs.Common.{◌≡◌, ◌⊎◌, inl, inr, ℕ, zero, suc, ◌-◌, ◌<◌, ◌≤◌, arith, length, true, List, [], ◌∷◌, ◌++◌, append_assoc, take, drop, Option, Some, None, refl, sym, ap, ◌∙◌, subst}
+use Rattle.std.specs.Prelude.{option_and_then}
+use Rattle.std.proofs.Common.{◌≡◌, ℕ, zero, suc, ◌-◌, ◌<◌, arith, List, [], ◌∷◌, ◌++◌, append_assoc, take, drop, Option, Some, None, refl, sym, ap, ◌∙◌, subst}
 use Rattle.std.proofs.lemmas.List.{take-append-drop}
-use Rattle.isa_terms.specs.Terms.{Tm, bare}
+use Rattle.isa_terms.specs.Terms.{Tm}
 use Rattle.isa_kernel.specs.declared.axioms.NamedProp.{NamedProp}
 use Rattle.isa_kernel.specs.Logic.{prop, imp, IsProposition}
 use Rattle.isa_kernel.specs.Forms.{imp_parts}
-use Rattle.isa_kernel.specs.Derivation.{Member, Within}
+use Rattle.isa_kernel.specs.Derivation.{Within}
 use Rattle.isa_kernel.specs.Theorem.{Theorem}
 use Rattle.isa_kernel.proofs.Members.{Member-left, Member-right}
 use Rattle.isa_kernel.proofs.Parts.{imp_made}
@@ -14,7 +14,7 @@ use Rattle.isa_conversion.proofs.Typed.{typed_of_type}
 use Rattle.isa_goal.specs.Goals.{Goals, implies, around, IsStanding, theorem_of, Proves}
 use Rattle.isa_goal.specs.Steps.{eliminated, introduced, rotated}
 use Rattle.isa_goal.specs.Focus.{focused, leading, put_back}
-use Rattle.isa_goal.proofs.Deriving.{ArePropositions, implies_append, implies_typed, derived_propositions, propositions_left, propositions_right, propositions_append}
+use Rattle.isa_goal.proofs.Deriving.{ArePropositions, implies_append, implies_typed, derived_propositions, propositions_left, propositions_right}
 use Rattle.isa_goal.proofs.Cutting.{more_hyps, fewer_hyps, eliminated_is, introduced_is, more_within, two_none}
 use Rattle.isa_goal.proofs.Refining.{around_made, standing_propositions}
 

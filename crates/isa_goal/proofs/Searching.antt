@@ -1,9 +1,8 @@
 -- What a search gives.
-use Rattle.std.proofs.Common.{◌≡◌, ℕ, zero, suc, ◌+◌, ◌<◌, ◌≤◌, arith, List, [], ◌∷◌, ◌++◌, map, drop, get_or, length, Bool, true, false, cond, ◌⊎◌, inl, inr, Option, Some, None, refl, sym, ap, ◌∙◌, subst}
-use Rattle.std.specs.Prelude.{option_and_then, option_map, is_some, Result, Ok, Err, IfNone}
+use Rattle.std.proofs.Common.{◌≡◌, ℕ, zero, suc, ◌+◌, ◌<◌, arith, List, [], ◌∷◌, ◌++◌, drop, get_or, length, true, false, inl, inr, Option, Some, None, refl, sym, ap, ◌∙◌, subst}
+use Rattle.std.specs.Prelude.{option_and_then, option_map, is_some, Ok, IfNone}
 use Rattle.std.proofs.lemmas.List.{drop_more}
-use Rattle.std.specs.declared.alloc.AllocError.{AllocError}
-use Rattle.isa_terms.specs.Terms.{Tm, bare}
+use Rattle.isa_terms.specs.Terms.{Tm}
 use Rattle.isa_terms.specs.Instance.{Instance}
 use Rattle.isa_terms.specs.declared.inst.TermEntry.{TermEntry}
 use Rattle.isa_kernel.specs.Axioms.{propositions}
@@ -14,7 +13,7 @@ use Rattle.isa_goal.specs.Goals.{Goals, premises, conclusion, IsStanding, around
 use Rattle.isa_goal.specs.Names.{canon}
 use Rattle.isa_goal.specs.Follows.{Follows}
 use Rattle.isa_goal.specs.Matching.{matched, is_first_order}
-use Rattle.isa_goal.specs.Resolving.{matching, lifted, lifted_by, resolved, attempt, limited, with_first, results, base_of, FollowsIfFound, Search, left, Steps}
+use Rattle.isa_goal.specs.Resolving.{matching, lifted, lifted_by, resolved, attempt, with_first, results, base_of, FollowsIfFound, Search, left, Steps}
 use Rattle.isa_goal.specs.declared.found.Found.{Found}
 use Rattle.isa_goal.specs.declared.found.Found.TheVariants.{Outside, Res}
 use Rattle.isa_goal.proofs.Deriving.{derive_more}

@@ -1,13 +1,12 @@
 -- What the rules give follows.
 use Rattle.std.specs.Prelude.{option_and_then, option_map}
-use Rattle.std.proofs.Common.{◌≡◌, ℕ, List, [], ◌∷◌, map, length, Bool, true, false, cond, Option, Some, None, refl, sym, ap, ◌∙◌, subst}
-use Rattle.isa_terms.specs.Terms.{Tm, bare}
+use Rattle.std.proofs.Common.{◌≡◌, ℕ, List, [], ◌∷◌, map, length, Bool, true, false, cond, Option, Some, None, refl, subst}
+use Rattle.isa_terms.specs.Terms.{Tm}
 use Rattle.isa_terms.specs.Instance.{Instance}
-use Rattle.isa_terms.specs.declared.inst.TermEntry.{TermEntry}
 use Rattle.isa_kernel.specs.Axioms.{propositions}
 use Rattle.isa_kernel.specs.Theorem.{Theorem, IsDerived, AreDerived}
-use Rattle.isa_kernel.specs.Inferences.{assumed, implies_introduced, implies_eliminated, instantiated}
-use Rattle.isa_kernel.proofs.Sound.{assumed_sound, implies_introduced_sound, implies_eliminated_sound}
+use Rattle.isa_kernel.specs.Inferences.{assumed, implies_eliminated, instantiated}
+use Rattle.isa_kernel.proofs.Sound.{assumed_sound, implies_eliminated_sound}
 use Rattle.isa_kernel.proofs.Instances.{instantiated_sound}
 use Rattle.isa_kernel.proofs.Members.{bases_left, bases_right}
 use Rattle.isa_conversion.proofs.Functions.{bind_some}
@@ -19,24 +18,10 @@ use Rattle.isa_goal.specs.Matching.{is_first_order, matched}
 use Rattle.isa_goal.specs.Resolving.{matching, lifted, lifted_by, resolved, is_large, limited, attempt, with_first, results, base_of, FollowsIfFound, AllFollow}
 use Rattle.isa_goal.specs.declared.found.Found.{Found}
 use Rattle.isa_goal.specs.declared.found.Found.TheVariants.{Outside, Res}
+use Rattle.isa_goal.proofs.Cutting.{eliminated_sound, introduced_sound}
 use Rattle.isa_goal.proofs.Numbers.{refined_advances}
 use Rattle.isa_goal.proofs.Lifting.{lifted_is, matching_keeps}
 use Rattle.isa_goal.proofs.Searching.{found_more}
-
-pub eliminated_sound : (ps : List Tm) (th x : Theorem) → eliminated ps th ≡ Some x → IsDerived th → IsDerived x
-unfolding eliminated
-eliminated_sound [] th x e d = subst (λ y. IsDerived y) (cc (e)) d
-eliminated_sound (p ∷ ps) th x e d =
-    let a = bind_some (assumed p) _ e in
-    let n = bind_some (implies_eliminated th a.0) _ a.2 in
-    eliminated_sound ps n.0 x n.2 (implies_eliminated_sound th a.0 n.0 n.1 d (assumed_sound p a.0 a.1))
-
-pub introduced_sound : (ps : List Tm) (th x : Theorem) → introduced ps th ≡ Some x → IsDerived th → IsDerived x
-unfolding introduced
-introduced_sound [] th x e d = subst (λ y. IsDerived y) (cc (e)) d
-introduced_sound (p ∷ ps) th x e d =
-    let i = bind_some (introduced ps th) _ e in
-    implies_introduced_sound p i.0 x i.2 (introduced_sound ps th i.0 i.1 d)
 
 met_sound : (hs ps : List Tm) (th x : Theorem) → met_under hs ps th ≡ Some x → IsDerived th → IsDerived x
 unfolding met_under

@@ -1,22 +1,19 @@
 -- What follows from a subgoal alone follows when it is put back.
-use Rattle.std.specs.Prelude.{codes, option_and_then}
-use Rattle.std.proofs.Common.{◌≡◌, ◌⊎◌, inl, inr, ℕ, zero, suc, ◌+◌, ◌-◌, arith, length, List, [], ◌∷◌, ◌++◌, map, take, drop, Bool, true, Option, Some, None, refl, sym, ap, ◌∙◌, subst}
+use Rattle.std.proofs.Common.{◌≡◌, ◌⊎◌, inl, inr, ℕ, suc, ◌-◌, arith, length, List, [], ◌∷◌, ◌++◌, map, take, drop, Some, None, refl, sym, ap, ◌∙◌, subst}
 use Rattle.std.proofs.lemmas.List.{take-append-drop, length-append}
 use Rattle.isa_terms.specs.Types.{Ty}
 use Rattle.isa_terms.specs.Terms.{Tm, Const, Free, Unknown, Bound, Abs, App, bare}
 use Rattle.isa_terms.specs.Instance.{Instance, instance_of}
-use Rattle.isa_terms.proofs.Bare.{type_at_bare}
-use Rattle.isa_kernel.specs.Logic.{prop, imp, IsProposition}
+use Rattle.isa_kernel.specs.Logic.{imp, IsProposition}
 use Rattle.isa_kernel.specs.Forms.{imp_parts}
-use Rattle.isa_kernel.specs.Derivation.{Member, Within, Derives}
-use Rattle.isa_kernel.specs.Inferences.{keeps}
+use Rattle.isa_kernel.specs.Derivation.{Member, Within}
 use Rattle.isa_kernel.proofs.Members.{bares}
 use Rattle.isa_conversion.proofs.Functions.{bind_some}
 use Rattle.isa_goal.specs.Goals.{Goals, implies, IsStanding, around}
 use Rattle.isa_goal.specs.Follows.{Each, Follows, Reduces}
 use Rattle.isa_goal.specs.Names.{canon}
 use Rattle.isa_goal.specs.Focus.{focused, leading, put_back, unfocused}
-use Rattle.isa_goal.proofs.Deriving.{ArePropositions, implies_bare, implies_proposition, derived_propositions, propositions_append, propositions_left, propositions_right, propositions_bare, propositions_member, derive_more, derive_assume}
+use Rattle.isa_goal.proofs.Deriving.{ArePropositions, implies_proposition, derived_propositions, propositions_append, propositions_left, propositions_right, propositions_bare, propositions_member, derive_assume}
 use Rattle.isa_goal.proofs.Refining.{around_made, standing_propositions}
 use Rattle.isa_goal.proofs.Following.{From, from_all, each_of, of_each, under, bare_member, instance_implies}
 use Rattle.isa_goal.proofs.Numbers.{canon_follows}
@@ -171,9 +168,9 @@ unfocus_follows ax i s f inner e ds di h =
     let alone = alone_propositions s us vs w ds here in
     let g : Goals = record { subgoals = w ∷ []; goal = implies (us ++ vs) s.goal; base = s.base } in
     let k : Follows ax (canon g) inner = subst (λ x. Follows ax (canon x) inner) (sym made) h in
-    let to_canon : Follows ax g (canon g) = canon_follows ax g g alone.0 (alone_reduces ax g alone.0) in
+    let to_canon : Follows ax g (canon g) = canon_follows ax g g alone.0 alone.1 (alone_reduces ax g alone.0) in
     let first : Follows ax g inner = follows_chain ax g (canon g) inner alone.0 alone.1 (standing_propositions inner di) to_canon k in
     let plain : Follows ax s (unfocused s inner i) = plain_follows ax i (i - 1) s g inner us vs w here refl di first in
     let news : ArePropositions (unfocused s inner i).subgoals = put_back_propositions (length s.subgoals - 1) (i - 1) inner di in
-    let last : Follows ax (unfocused s inner i) (canon (unfocused s inner i)) = canon_follows ax (unfocused s inner i) (unfocused s inner i) news (alone_reduces ax (unfocused s inner i) news) in
+    let last : Follows ax (unfocused s inner i) (canon (unfocused s inner i)) = canon_follows ax (unfocused s inner i) (unfocused s inner i) news (leading_propositions (length s.subgoals - 1) inner di).1 (alone_reduces ax (unfocused s inner i) news) in
     follows_chain ax s (unfocused s inner i) (canon (unfocused s inner i)) (standing_propositions s ds) (derived_propositions s.subgoals s.goal ds.derivation).1 (canon_propositions (unfocused s inner i) news) plain last

@@ -1,10 +1,9 @@
 -- The lifting of a rule over the parameters and the assumptions of a subgoal.
-use Rattle.std.specs.Prelude.{◌≡◌, ℕ, zero, suc, ◌+◌, List, [], ◌∷◌, map, length, codes, Option, Some, None}
+use Rattle.std.specs.Prelude.{◌≡◌, ℕ, zero, suc, ◌+◌, List, [], ◌∷◌, map, length}
 use Rattle.isa_terms.specs.Types.{Ty}
 use Rattle.isa_terms.specs.Terms.{Tm, Const, Free, Unknown, Bound, Abs, App}
 use Rattle.isa_terms.specs.Typing.{function_of}
-use Rattle.isa_terms.specs.Replace.{raise}
-use Rattle.isa_kernel.specs.Logic.{prop, imp, all}
+use Rattle.isa_kernel.specs.Logic.{all}
 use Rattle.isa_kernel.specs.Theorem.{Theorem}
 use Rattle.isa_goal.specs.declared.lift.Parameter.{Parameter}
 use Rattle.isa_goal.specs.Goals.{implies, premises, conclusion}

@@ -1,4 +1,7 @@
-ghost use Rattle.std.specs.Prelude.{◌≡◌, take, drop, Some, Ok, IfOk};
+ghost use Rattle.std.specs.Prelude.{◌≡◌, take, drop, true, Some, Ok, IfOk};
+ghost use Rattle.isa_kernel.specs.Inferences.{keeps};
+ghost use Rattle.isa_goal.specs.Follows.{instanced, IsNormalState};
+ghost use Rattle.isa_goal.specs.Shape.{reshaped};
 ghost use Rattle.isa_goal.specs.Focus.{focused, put_back};
 ghost use Rattle.isa_goal.specs.Names.{canon, naming};
 ghost use Rattle.isa_goal.specs.Goals.{Goals, IsStanding, has_parameter, theorem_of, Proves, Gives, Finishes, started, refined};
@@ -8,6 +11,7 @@ use crate::naming::{
     name_unknowns,
 };
 use crate::premises::{around, is_all, split_leading, split_rule};
+use crate::reshaping::reshape;
 use crate::steps::{cut, make_implies, rotate, spliced};
 use isa_kernel::{InferenceError, Thm, assume, implies_intr, instantiate_thm};
 use isa_terms::{Inst, Term, Terms, Typs, copied, same_term};
@@ -185,20 +189,50 @@ impl Draft {
         name_unknowns(alloc, &self.goal, 1, seen.as_slice(), names)
     }
 
-    /// The canonical form.
-    pub(crate) fn canon(&self, alloc: Global) -> Result<Draft, InferenceError>
-        ensures { Gives result (Some (canon self.now)) }
+    /// The draft under the instance.
+    fn instance(&self, alloc: Global, inst: &Inst) -> Result<Draft, AllocError>
+        requires { keeps inst.now.types inst.now.terms ≡ true }
+        ensures { IfOk result (λ t. t ≡ instanced inst.now self.now) }
     {
-        let names = self.naming(alloc)?;
-        let thm = instantiate_thm(alloc, &names, &self.thm)?;
+        let thm = granted(instantiate_thm(alloc, inst, &self.thm))?;
         match split_rule(alloc, self.subgoals.len(), &thm)? {
-            None => Err(InferenceError::Shape),
+            None => Err(AllocError),
             Some(parts) => Ok(Draft {
                 thm,
                 subgoals: parts.premises,
                 goal: parts.conclusion,
             }),
         }
+    }
+
+    /// The draft with each subgoal in the form.
+    fn reshaped(&self, alloc: Global) -> Result<Draft, AllocError>
+        requires { IsNormalState self.now }
+        ensures { IfOk result (λ t. t ≡ reshaped self.now) }
+    {
+        self.is_standing();
+        let subgoals = self.subgoals.as_slice();
+        let copy = self.thm.copy(alloc)?;
+        let thm = granted(reshape(alloc, Terms::new(alloc), subgoals, copy))?;
+        match split_rule(alloc, self.subgoals.len(), &thm)? {
+            None => Err(AllocError),
+            Some(parts) => Ok(Draft {
+                thm,
+                subgoals: parts.premises,
+                goal: parts.conclusion,
+            }),
+        }
+    }
+
+    /// The canonical form.
+    pub(crate) fn canon(&self, alloc: Global) -> Result<Draft, AllocError>
+        ensures { IfOk result (λ t. t ≡ canon self.now) }
+    {
+        self.is_standing();
+        let normal = self.instance(alloc, &Inst::new(alloc))?;
+        let shaped = normal.reshaped(alloc)?;
+        let names = shaped.naming(alloc)?;
+        shaped.instance(alloc, &names)
     }
 }
 

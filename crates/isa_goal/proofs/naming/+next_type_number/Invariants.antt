@@ -1,4 +1,4 @@
-use Rattle.std.proofs.Common.{◌-◌, ◌^◌, length}
+use Rattle.std.proofs.Common.{◌-◌, ◌^◌}
 use Rattle.isa_goal.proofs.naming.+next_type_number.Given as goal
 
 abbrev pub decreases-next_type_number : goal.decreases-next_type_number

@@ -1,4 +1,4 @@
-use Rattle.std.proofs.Common.{rules, arith, subst, sym, ◌≡◌, ◌++◌, List}
+use Rattle.std.proofs.Common.{rules, arith, subst, sym, ◌≡◌, List}
 use Rattle.std.specs.Prelude.{IfOk}
 use Rattle.isa_terms.specs.Terms.{Tm}
 use Rattle.isa_goal.specs.declared.premises.Premises.{Premises}

@@ -1,6 +1,5 @@
 use Rattle.std.proofs.Common.{rules, arith, ◌≡◌, ◌∙◌, false}
 use Rattle.std.specs.Prelude.{is_some}
-use Rattle.isa_goal.specs.Resolving.{attempt}
 use Rattle.isa_goal.proofs.Searching.{next_step, found_in, first_none}
 use Rattle.isa_goal.proofs.resolving.next_found.Goals as goal
 

@@ -1,11 +1,9 @@
-use Rattle.std.proofs.Common.{rules, ◌≡◌, ◌++◌, [], Some, None, length, subst}
-use Rattle.std.specs.Prelude.{IfOk, Option, option_map}
+use Rattle.std.proofs.Common.{rules, ◌≡◌, Some, None, length, subst}
+use Rattle.std.specs.Prelude.{IfOk, Option}
 use Rattle.isa_kernel.specs.Axioms.{propositions}
 use Rattle.isa_kernel.specs.Theorem.{Theorem}
-use Rattle.isa_goal.specs.Goals.{Goals, refined, premises, conclusion, around}
-use Rattle.isa_goal.specs.Matching.{matched}
-use Rattle.isa_goal.specs.Names.{canon}
-use Rattle.isa_goal.specs.Resolving.{matching, lifted, lifted_by, resolved, LeadsIfSome}
+use Rattle.isa_goal.specs.Goals.{Goals}
+use Rattle.isa_goal.specs.Resolving.{lifted_by, LeadsIfSome}
 use Rattle.isa_goal.proofs.Searching.{resolve_is, resolve_never, resolve_some}
 use Rattle.isa_goal.proofs.resolving.resolve.Goals as goal
 

@@ -1,5 +1,4 @@
-use Rattle.std.proofs.Common.{rules, ◌≡◌, Some}
-use Rattle.isa_goal.specs.Names.{canon}
+use Rattle.std.proofs.Common.{rules}
 use Rattle.isa_goal.proofs.Chaining.{canon_normal}
 use Rattle.isa_goal.proofs.state.canonical.Goals as goal
 

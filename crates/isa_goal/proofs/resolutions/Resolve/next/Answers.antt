@@ -1,4 +1,4 @@
-use Rattle.std.proofs.Common.{rules, ◌≡◌, drop, length, false, true, sym, subst}
+use Rattle.std.proofs.Common.{rules, ◌≡◌, drop, length, false, subst}
 use Rattle.std.specs.Prelude.{Ok, IfNone}
 use Rattle.isa_goal.specs.Resolving.{Search, Steps, results, with_first}
 use Rattle.isa_goal.proofs.Searching.{steps_is}
