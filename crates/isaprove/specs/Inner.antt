@@ -1,7 +1,7 @@
 -- The types and propositions of quoted texts, by their words.
 -- A TYPE is NAMEs joined by `=>`. A TERM is a NAME with arguments, each a NAME or `(TERM)`.
 -- A PROP is TERMs or `(PROP)` joined by `==>` to the right; each TERM there gets the judgment.
-use Rattle.std.specs.Prelude.{ℕ, zero, suc, Bool, true, false, if◌then◌else◌, List, [], ◌∷◌, Option, Some, None, option_map, codes}
+use Rattle.std.specs.Prelude.{ℕ, zero, suc, Bool, true, false, ◌&&◌, if◌then◌else◌, List, [], ◌∷◌, length, Option, Some, None, option_map, codes}
 use Rattle.isa_terms.specs.Types.{Ty, TyCon, NoTys}
 use Rattle.isa_terms.specs.Terms.{Tm, Const, Free, Unknown, App}
 use Rattle.isa_terms.specs.Typing.{function_of}
@@ -14,10 +14,6 @@ use Rattle.isaprove.specs.Words.{plain_words}
 use Rattle.isaprove.specs.Commands.{◌>>=◌, is_name}
 use Rattle.isaprove.specs.Contexts.{ContextSeen}
 
--- A step into parentheses, to the next argument or behind a `==>` or `=>` is one deeper. No place is deeper than this.
-abbrev pub deepest : ℕ
-deepest = 1000
-
 -- the words behind this one
 abbrev pub behind_word : List ℕ → List (List ℕ) → Option (List (List ℕ))
 behind_word text [] = None
@@ -28,26 +24,15 @@ abbrev pub all_read : {A : Type 0} → A × List (List ℕ) → Option A
 all_read (a, []) = Some a
 all_read (a, w ∷ ws) = None
 
--- the type T, or `T => U` where the words go on
-abbrev pub longer_type : (List (List ℕ) → Option Ty) → Ty → List (List ℕ) → Option Ty
-longer_type inner T [] = Some T
-longer_type inner T (w ∷ ws) = do
-  rest ← behind_word (codes "=>") (w ∷ ws)
-  U ← inner rest
-  Some (function_of T U)
-
-abbrev pub type_step : (List (List ℕ) → Option Ty) → List (List ℕ) → Option Ty
-type_step inner [] = None
-type_step inner (w ∷ ws) = if is_name w then longer_type inner (TyCon w NoTys) ws else None
-
--- the TYPE of the words, where it is nested at most n deep
-unfoldable pub type_within : ℕ → List (List ℕ) → Option Ty
-type_within zero ws = None
-type_within (suc n) ws = type_step (type_within n) ws
+-- the TYPE of the words
+unfoldable pub type_of_words : List (List ℕ) → Option Ty
+type_of_words [] = None
+type_of_words (w ∷ []) = if is_name w then Some (TyCon w NoTys) else None
+type_of_words (w ∷ v ∷ ws) = if is_name w && name_eq v (codes "=>") then option_map (function_of (TyCon w NoTys)) (type_of_words ws) else None
 
 -- the TYPE of a text
 unfoldable pub type_of_text : List ℕ → Option Ty
-type_of_text text = type_within deepest (plain_words text)
+type_of_text text = type_of_words (plain_words text)
 
 -- T, where the text is `T => prop`
 unfoldable pub judged_type : List ℕ → Option Ty
@@ -103,7 +88,7 @@ implying inner p (Some rest) = do
   q ← inner rest
   Some (imp p.0 q.0, q.1)
 
--- what stands in front of the words, and the words behind it, where it is nested at most n deep
+-- the TERM in front of the words, or the arguments of f there, and the words behind them; each step takes a word, and n is above their number
 unfoldable mutual
   pub term_within : ℕ → ContextSeen → Bool → List (List ℕ) → Option (Tm × List (List ℕ))
   term_within zero c fixed ws = None
@@ -113,14 +98,28 @@ unfoldable mutual
   arguments_within zero c fixed f ws = None
   arguments_within (suc n) c fixed f ws = arguments_step (term_within n c fixed) (arguments_within n c fixed) c fixed f ws
 
-  pub item_within : ℕ → ContextSeen → Bool → List (List ℕ) → Option (Tm × List (List ℕ))
-  item_within zero c fixed ws = None
-  item_within (suc n) c fixed ws = item_step (prop_within n c fixed) (term_within n c fixed) c ws
+unfoldable pub term_in : ContextSeen → Bool → List (List ℕ) → Option (Tm × List (List ℕ))
+term_in c fixed ws = term_within (suc (length ws)) c fixed ws
 
-  pub prop_within : ℕ → ContextSeen → Bool → List (List ℕ) → Option (Tm × List (List ℕ))
-  prop_within zero c fixed ws = None
-  prop_within (suc n) c fixed ws = item_within n c fixed ws >>= (λ p. implying (prop_within n c fixed) p (behind_word (codes "==>") p.1))
+unfoldable pub arguments_in : ContextSeen → Bool → Tm → List (List ℕ) → Option (Tm × List (List ℕ))
+arguments_in c fixed f ws = arguments_within (suc (length ws)) c fixed f ws
+
+-- the PROP in front of the words, and the words behind it; n is above their number
+unfoldable pub prop_within : ℕ → ContextSeen → Bool → List (List ℕ) → Option (Tm × List (List ℕ))
+prop_within zero c fixed ws = None
+prop_within (suc n) c fixed ws = item_step (prop_within n c fixed) (term_in c fixed) c ws >>= (λ p. implying (prop_within n c fixed) p (behind_word (codes "==>") p.1))
+
+unfoldable pub prop_in : ContextSeen → Bool → List (List ℕ) → Option (Tm × List (List ℕ))
+prop_in c fixed ws = prop_within (suc (length ws)) c fixed ws
+
+-- the first part of a PROP, and the words behind it
+unfoldable pub item_in : ContextSeen → Bool → List (List ℕ) → Option (Tm × List (List ℕ))
+item_in c fixed ws = item_step (prop_in c fixed) (term_in c fixed) c ws
+
+-- the PROP of the words, all of them
+unfoldable pub prop_of_words : ContextSeen → Bool → List (List ℕ) → Option Tm
+prop_of_words c fixed ws = prop_in c fixed ws >>= all_read
 
 -- the PROP of a text, whose variables are fixed or unknown
 unfoldable pub prop_of_text : ContextSeen → Bool → List ℕ → Option Tm
-prop_of_text c fixed text = prop_within deepest c fixed (plain_words text) >>= all_read
+prop_of_text c fixed text = prop_of_words c fixed (plain_words text)

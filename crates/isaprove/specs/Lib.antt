@@ -4,6 +4,7 @@ pub mod Lines
 pub mod Commands
 pub mod Contexts
 pub mod Inner
+pub mod Grammar
 pub mod Text
 pub mod Piece
 pub mod Part

@@ -1,7 +1,8 @@
 //! The types and propositions of quoted texts.
 ghost use Rattle.std.specs.Prelude.{◌≡◌, IfOk, IfSome, IfNone, Some, None};
 ghost use Rattle.isaprove.specs.Answer.{Answers, AnswersBy};
-ghost use Rattle.isaprove.specs.Inner.{behind_word, type_within, type_of_text, judged_type, variable, atom, judged, term_within, arguments_within, item_within, prop_within, prop_of_text, in_parentheses};
+ghost use Rattle.isaprove.specs.Grammar.{ReadsTheGrammar};
+ghost use Rattle.isaprove.specs.Inner.{behind_word, type_of_words, type_of_text, judged_type, variable, atom, judged, term_in, arguments_in, item_in, prop_in, prop_of_text, in_parentheses};
 
 use crate::command::is_name;
 use crate::context::Context;
@@ -13,9 +14,9 @@ use isa_terms::{
 };
 use std::alloc::{AllocError, Global};
 
-/// A step into parentheses, to the next argument or behind a `==>` or `=>` is one deeper. No place is
-/// deeper than this.
-const DEEPEST: u32 = 1000;
+/// How deep calls go, one for each step into parentheses, to the next argument or behind a `==>` or `=>`. A deeper
+/// text is answered by want of memory, since calls take the machine's stack.
+const DEEPEST: u32 = 10_000;
 
 /// The words behind this one.
 fn behind_word<'a>(text: &str, words: &'a [Name]) -> Option<&'a [Name]>
@@ -30,13 +31,13 @@ fn behind_word<'a>(text: &str, words: &'a [Name]) -> Option<&'a [Name]>
     }
 }
 
-/// The type of the words, where it is nested at most so deep.
-#[tactic(auto, using(crate::proofs::InnerLemmas::type_at, crate::proofs::InnerLemmas::type_none))]
-fn type_within(alloc: Global, depth: u32, words: &[Name]) -> Result<Typ, Refusal>
-    ensures { Answers result (type_within depth words.now) }
+/// The type of the words.
+#[tactic(auto, unfolding(crate::specs::Inner::type_of_words))]
+fn type_of_words(alloc: Global, depth: u32, words: &[Name]) -> Result<Typ, Refusal>
+    ensures { Answers result (type_of_words words.now) }
 {
     if depth == 0 {
-        return Err(Refusal::NotBuilt);
+        return Err(Refusal::Memory);
     }
     let Some((first, rest)) = words.split_first() else {
         return Err(Refusal::NotBuilt);
@@ -51,7 +52,7 @@ fn type_within(alloc: Global, depth: u32, words: &[Name]) -> Result<Typ, Refusal
     let Some(rest) = behind_word("=>", rest) else {
         return Err(Refusal::NotBuilt);
     };
-    let range = type_within(alloc, depth - 1, rest)?;
+    let range = type_of_words(alloc, depth - 1, rest)?;
     Ok(function_type(alloc, domain, range)?)
 }
 
@@ -61,7 +62,7 @@ pub fn type_of_text(alloc: Global, text: &Name) -> Result<Typ, Refusal>
     ensures { Answers result (type_of_text text.now) }
 {
     let words = plain_words(alloc, text.as_bytes())?;
-    type_within(alloc, DEEPEST, words.as_slice())
+    type_of_words(alloc, DEEPEST, words.as_slice())
 }
 
 /// T, where the text is `T => prop`.
@@ -120,18 +121,18 @@ fn judged(alloc: Global, context: &Context, term: Term) -> Result<Term, Refusal>
 
 /// The term in front of the words, and the words behind it.
 #[cycle(reading)]
-#[tactic(auto, using(crate::proofs::InnerLemmas::term_at, crate::proofs::InnerLemmas::term_none))]
-fn term_within<'a>(
+#[tactic(auto, using(crate::proofs::InnerLemmas::term_step_in))]
+fn term_in<'a>(
     alloc: Global,
     context: &Context,
     fixed: bool,
     depth: u32,
     words: &'a [Name],
 ) -> Result<(Term, &'a [Name]), Refusal>
-    ensures { AnswersBy (λ p. (p.0, p.1.now)) result (term_within depth context.now fixed words.now) }
+    ensures { AnswersBy (λ p. (p.0, p.1.now)) result (term_in context.now fixed words.now) }
 {
     if depth == 0 {
-        return Err(Refusal::NotBuilt);
+        return Err(Refusal::Memory);
     }
     let Some((first, rest)) = words.split_first() else {
         return Err(Refusal::NotBuilt);
@@ -140,13 +141,13 @@ fn term_within<'a>(
         return Err(Refusal::NotBuilt);
     }
     let head = atom(alloc, context, fixed, first)?;
-    arguments_within(alloc, context, fixed, depth - 1, head, rest)
+    arguments_in(alloc, context, fixed, depth - 1, head, rest)
 }
 
 /// The function applied to the arguments in front of the words, and the words behind them.
 #[cycle(reading)]
-#[tactic(auto, using(crate::proofs::InnerLemmas::arguments_at, crate::proofs::InnerLemmas::arguments_none))]
-fn arguments_within<'a>(
+#[tactic(auto, using(crate::proofs::InnerLemmas::arguments_step_in))]
+fn arguments_in<'a>(
     alloc: Global,
     context: &Context,
     fixed: bool,
@@ -154,85 +155,85 @@ fn arguments_within<'a>(
     fun: Term,
     words: &'a [Name],
 ) -> Result<(Term, &'a [Name]), Refusal>
-    ensures { AnswersBy (λ p. (p.0, p.1.now)) result (arguments_within depth context.now fixed fun words.now) }
+    ensures { AnswersBy (λ p. (p.0, p.1.now)) result (arguments_in context.now fixed fun words.now) }
 {
     if depth == 0 {
-        return Err(Refusal::NotBuilt);
+        return Err(Refusal::Memory);
     }
     let Some((first, rest)) = words.split_first() else {
         return Ok((fun, words));
     };
     if first.is_text("(") {
-        let (arg, inside) = term_within(alloc, context, fixed, depth - 1, rest)?;
+        let (arg, inside) = term_in(alloc, context, fixed, depth - 1, rest)?;
         let Some(behind) = behind_word(")", inside) else {
             return Err(Refusal::NotBuilt);
         };
         let more = Term::new(alloc, TermNode::App(fun, arg))?;
-        return arguments_within(alloc, context, fixed, depth - 1, more, behind);
+        return arguments_in(alloc, context, fixed, depth - 1, more, behind);
     }
     if !is_name(first.as_bytes()) {
         return Ok((fun, words));
     }
     let arg = atom(alloc, context, fixed, first)?;
     let more = Term::new(alloc, TermNode::App(fun, arg))?;
-    arguments_within(alloc, context, fixed, depth - 1, more, rest)
+    arguments_in(alloc, context, fixed, depth - 1, more, rest)
 }
 
 /// The proposition in parentheses or the term with the judgment in front of the words, and the words
 /// behind it.
 #[cycle(propositions)]
-#[tactic(auto, using(crate::proofs::InnerLemmas::item_at, crate::proofs::InnerLemmas::item_none))]
-fn item_within<'a>(
+#[tactic(auto, using(crate::proofs::InnerLemmas::item_step_in))]
+fn item_in<'a>(
     alloc: Global,
     context: &Context,
     fixed: bool,
     depth: u32,
     words: &'a [Name],
 ) -> Result<(Term, &'a [Name]), Refusal>
-    ensures { AnswersBy (λ p. (p.0, p.1.now)) result (item_within depth context.now fixed words.now) }
+    ensures { AnswersBy (λ p. (p.0, p.1.now)) result (item_in context.now fixed words.now) }
 {
     if depth == 0 {
-        return Err(Refusal::NotBuilt);
+        return Err(Refusal::Memory);
     }
     let Some((first, rest)) = words.split_first() else {
         return Err(Refusal::NotBuilt);
     };
     if first.is_text("(") {
-        let (inner, inside) = prop_within(alloc, context, fixed, depth - 1, rest)?;
+        let (inner, inside) = prop_in(alloc, context, fixed, depth - 1, rest)?;
         let Some(behind) = behind_word(")", inside) else {
             return Err(Refusal::NotBuilt);
         };
         return Ok((inner, behind));
     }
-    let (term, behind) = term_within(alloc, context, fixed, depth - 1, words)?;
+    let (term, behind) = term_in(alloc, context, fixed, depth - 1, words)?;
     Ok((judged(alloc, context, term)?, behind))
 }
 
 /// The proposition in front of the words, and the words behind it.
 #[cycle(propositions)]
-#[tactic(auto, using(crate::proofs::InnerLemmas::prop_at, crate::proofs::InnerLemmas::prop_none))]
-fn prop_within<'a>(
+#[tactic(auto, using(crate::proofs::InnerLemmas::prop_step_in))]
+fn prop_in<'a>(
     alloc: Global,
     context: &Context,
     fixed: bool,
     depth: u32,
     words: &'a [Name],
 ) -> Result<(Term, &'a [Name]), Refusal>
-    ensures { AnswersBy (λ p. (p.0, p.1.now)) result (prop_within depth context.now fixed words.now) }
+    ensures { AnswersBy (λ p. (p.0, p.1.now)) result (prop_in context.now fixed words.now) }
 {
     if depth == 0 {
-        return Err(Refusal::NotBuilt);
+        return Err(Refusal::Memory);
     }
-    let (left, behind) = item_within(alloc, context, fixed, depth - 1, words)?;
+    let (left, behind) = item_in(alloc, context, fixed, depth - 1, words)?;
     let Some(rest) = behind_word("==>", behind) else {
         return Ok((left, behind));
     };
-    let (right, behind) = prop_within(alloc, context, fixed, depth - 1, rest)?;
+    let (right, behind) = prop_in(alloc, context, fixed, depth - 1, rest)?;
     Ok((make_imp(alloc, &left, &right)?, behind))
 }
 
 /// The proposition of a text, whose variables are fixed or unknown.
-#[tactic(auto, unfolding(crate::specs::Inner::prop_of_text))]
+#[tactic(auto, unfolding(crate::specs::Inner::prop_of_text, crate::specs::Inner::prop_of_words))]
 pub fn prop_of_text(
     alloc: Global,
     context: &Context,
@@ -242,10 +243,16 @@ pub fn prop_of_text(
     ensures { Answers result (prop_of_text context.now fixed text.now) }
 {
     let words = plain_words(alloc, text.as_bytes())?;
-    let (prop, rest) = prop_within(alloc, context, fixed, DEEPEST, words.as_slice())?;
+    let (prop, rest) = prop_in(alloc, context, fixed, DEEPEST, words.as_slice())?;
     if rest.is_empty() {
         Ok(prop)
     } else {
         Err(Refusal::NotBuilt)
     }
 }
+
+/// The reading of a proposition's words is what the grammar gives, and the grammar gives nothing else.
+#[tactic(auto, using(crate::proofs::GrammarLemmas::reads_the_grammar))]
+pub fn reads_the_grammar()
+    ensures { ReadsTheGrammar }
+{}

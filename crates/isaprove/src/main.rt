@@ -15,6 +15,7 @@ mod text;
 mod top;
 mod words;
 
+pub use inner::reads_the_grammar;
 use isa_io::{HostFiles, StreamSink};
 use std::io::ErrorKind;
 use std::process::ExitCode;
