@@ -11,18 +11,20 @@ use Rattle.isa_kernel.specs.Theorem.{Theorem, IsDerived}
 use Rattle.isa_kernel.specs.Inferences.{keeps, instantiated}
 use Rattle.isa_kernel.proofs.Instances.{instantiated_sound}
 use Rattle.isa_conversion.proofs.Typed.{typed_of_type}
-use Rattle.isa_goal.specs.Goals.{Goals, implies, premises, conclusion, premises_of, IsStanding, around}
+use Rattle.isa_goal.specs.Goals.{Goals, IsStanding, around}
+use Rattle.isa_subgoal.specs.Premises.{implies, premises, conclusion, premises_of}
 use Rattle.isa_goal.specs.Names.{unknowns_in, set_terms}
-use Rattle.isa_goal.specs.Steps.{raised, raised_rule}
+use Rattle.isa_subgoal.specs.Steps.{raised, raised_rule}
 use Rattle.isa_goal.specs.Matching.{matched, is_first_order}
 use Rattle.isa_goal.specs.Resolving.{apart, new_types, matching, lifted, lifted_by}
-use Rattle.isa_goal.proofs.Deriving.{ArePropositions, implies_typed, derived_propositions, propositions_right}
-use Rattle.isa_goal.proofs.Cutting.{raised_is}
+use Rattle.isa_subgoal.proofs.Deriving.{ArePropositions, implies_typed, derived_propositions, propositions_right}
+use Rattle.isa_subgoal.proofs.Cutting.{raised_is}
 use Rattle.isa_goal.proofs.Refining.{around_made, standing_propositions}
-use Rattle.isa_goal.proofs.Following.{instance_implies, instantiated_is}
-use Rattle.isa_goal.proofs.Numbers.{premises_all, same_length, keeps_sets}
+use Rattle.isa_subgoal.proofs.Instancing.{instance_implies, instantiated_is}
+use Rattle.isa_subgoal.proofs.Splitting.{premises_all, same_length}
+use Rattle.isa_goal.proofs.Numbers.{keeps_sets}
 use Rattle.isa_goal.proofs.Matches.{matched_keeps}
-use Rattle.isa_goal.proofs.Counts.{parts_made}
+use Rattle.isa_subgoal.proofs.Counts.{parts_made}
 
 pub apart_keeps : (es : List TypeEntry) (us : List Tm) → keeps es (apart es us) ≡ true
 unfolding apart

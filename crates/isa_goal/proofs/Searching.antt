@@ -9,15 +9,16 @@ use Rattle.isa_kernel.specs.Axioms.{propositions}
 use Rattle.isa_kernel.specs.Derivation.{Member, Within}
 use Rattle.isa_kernel.specs.Theorem.{Theorem, IsDerived}
 use Rattle.isa_kernel.proofs.Members.{bases_left, bases_right}
-use Rattle.isa_goal.specs.Goals.{Goals, premises, conclusion, IsStanding, around, refined}
+use Rattle.isa_goal.specs.Goals.{Goals, IsStanding, around, refined}
+use Rattle.isa_subgoal.specs.Premises.{premises, conclusion}
 use Rattle.isa_goal.specs.Names.{canon}
 use Rattle.isa_goal.specs.Follows.{Follows}
 use Rattle.isa_goal.specs.Matching.{matched, is_first_order}
 use Rattle.isa_goal.specs.Resolving.{matching, lifted, lifted_by, resolved, attempt, with_first, results, base_of, FollowsIfFound, Search, left, Steps}
 use Rattle.isa_goal.specs.declared.found.Found.{Found}
 use Rattle.isa_goal.specs.declared.found.Found.TheVariants.{Outside, Res}
-use Rattle.isa_goal.proofs.Deriving.{derive_more}
-use Rattle.isa_goal.proofs.Following.{each_of, of_each}
+use Rattle.isa_subgoal.proofs.Deriving.{derive_more}
+use Rattle.isa_subgoal.proofs.Consequences.{each_of, of_each}
 use Rattle.isa_goal.proofs.Lifting.{lifted_is, matching_keeps}
 
 -- ---- one rule

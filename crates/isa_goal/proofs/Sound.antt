@@ -10,34 +10,19 @@ use Rattle.isa_kernel.proofs.Sound.{assumed_sound, implies_eliminated_sound}
 use Rattle.isa_kernel.proofs.Instances.{instantiated_sound}
 use Rattle.isa_kernel.proofs.Members.{bases_left, bases_right}
 use Rattle.isa_conversion.proofs.Functions.{bind_some}
-use Rattle.isa_goal.specs.Goals.{Goals, implies, premises, conclusion, rule_form, IsStanding, around, refined}
-use Rattle.isa_goal.specs.Steps.{eliminated, introduced, met_under, raised, raised_rule}
+use Rattle.isa_goal.specs.Goals.{Goals, IsStanding, around, refined}
+use Rattle.isa_subgoal.specs.Premises.{implies, premises, conclusion, rule_form}
+use Rattle.isa_subgoal.specs.Steps.{eliminated, introduced, met_under, raised, raised_rule}
 use Rattle.isa_goal.specs.Names.{canon}
 use Rattle.isa_goal.specs.Follows.{Advances}
 use Rattle.isa_goal.specs.Matching.{is_first_order, matched}
 use Rattle.isa_goal.specs.Resolving.{matching, lifted, lifted_by, resolved, is_large, limited, attempt, with_first, results, base_of, FollowsIfFound, AllFollow}
 use Rattle.isa_goal.specs.declared.found.Found.{Found}
 use Rattle.isa_goal.specs.declared.found.Found.TheVariants.{Outside, Res}
-use Rattle.isa_goal.proofs.Cutting.{eliminated_sound, introduced_sound}
+use Rattle.isa_subgoal.proofs.Cutting.{eliminated_sound, introduced_sound}
 use Rattle.isa_goal.proofs.Numbers.{refined_advances}
 use Rattle.isa_goal.proofs.Lifting.{lifted_is, matching_keeps}
 use Rattle.isa_goal.proofs.Searching.{found_more}
-
-met_sound : (hs ps : List Tm) (th x : Theorem) → met_under hs ps th ≡ Some x → IsDerived th → IsDerived x
-unfolding met_under
-met_sound hs [] th x e d = subst (λ y. IsDerived y) (cc (e)) d
-met_sound hs (p ∷ ps) th x e d =
-    let a = bind_some (assumed (implies hs p)) _ e in
-    let b = bind_some (eliminated hs a.0) _ a.2 in
-    let n = bind_some (implies_eliminated th b.0) _ b.2 in
-    met_sound hs ps n.0 x n.2 (implies_eliminated_sound th b.0 n.0 n.1 d (eliminated_sound hs a.0 b.0 b.1 (assumed_sound (implies hs p) a.0 a.1)))
-
-raised_sound : (hs ps : List Tm) (th x : Theorem) → raised hs ps th ≡ Some x → IsDerived th → IsDerived x
-unfolding raised
-raised_sound hs ps th x e d =
-    let c = bind_some (met_under hs ps th) _ e in
-    let i = bind_some (introduced hs c.0) _ c.2 in
-    introduced_sound (map (implies hs) ps) i.0 x i.2 (introduced_sound hs c.0 i.0 i.1 (met_sound hs ps th c.0 c.1 d))
 
 pub lifted_sound : (hs : List Tm) (c : ℕ) (n : Instance) (th x : Theorem) → lifted_by hs c n th ≡ Some x → IsDerived th → IsDerived x
 unfolding raised_rule

@@ -1,19 +1,17 @@
 ghost use Rattle.std.specs.Prelude.{◌≡◌, take, drop, true, Some, Ok, IfOk};
 ghost use Rattle.isa_kernel.specs.Inferences.{keeps};
 ghost use Rattle.isa_goal.specs.Follows.{instanced, IsNormalState};
-ghost use Rattle.isa_goal.specs.Shape.{reshaped};
+ghost use Rattle.isa_goal.specs.Names.{reshaped, canon, naming};
 ghost use Rattle.isa_goal.specs.Focus.{focused, put_back};
-ghost use Rattle.isa_goal.specs.Names.{canon, naming};
 ghost use Rattle.isa_goal.specs.Goals.{Goals, IsStanding, has_parameter, theorem_of, Proves, Gives, Finishes, started, refined};
 
 use crate::naming::{
     add_all_type_unknowns, add_all_unknowns, add_type_unknowns, add_unknowns, name_type_unknowns,
     name_unknowns,
 };
-use crate::premises::{around, is_all, split_leading, split_rule};
-use crate::reshaping::reshape;
-use crate::steps::{cut, make_implies, rotate, spliced};
+use crate::places::around;
 use isa_kernel::{InferenceError, Thm, assume, implies_intr, instantiate_thm};
+use isa_subgoal::{cut, is_all, make_implies, reshape, rotate, spliced, split_leading, split_rule};
 use isa_terms::{Inst, Term, Terms, Typs, copied, same_term};
 use std::alloc::{AllocError, Global};
 use std::marker::Model;

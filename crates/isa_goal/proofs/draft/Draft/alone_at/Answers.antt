@@ -1,6 +1,6 @@
 use Rattle.std.proofs.Common.{rules, subst}
 use Rattle.isa_goal.specs.Goals.{Goals, Proves}
-use Rattle.isa_goal.proofs.Rotating.{alone_proves, alone_focused}
+use Rattle.isa_goal.proofs.Focusing.{alone_proves, alone_focused}
 use Rattle.isa_goal.proofs.draft.Draft.alone_at.Goals as goal
 
 pub invariant_of-result : goal.invariant_of-result

@@ -3,7 +3,8 @@ use Rattle.isa_terms.specs.Instance.{instance_of}
 use Rattle.isa_kernel.specs.Inferences.{instantiated}
 use Rattle.isa_goal.specs.Goals.{Goals, Proves}
 use Rattle.isa_goal.specs.Follows.{instanced}
-use Rattle.isa_goal.proofs.Numbers.{same_length, read_proves, read_gives, instanced_is}
+use Rattle.isa_subgoal.proofs.Splitting.{same_length}
+use Rattle.isa_goal.proofs.Numbers.{read_proves, read_gives, instanced_is}
 use Rattle.isa_goal.proofs.draft.Draft.instance.Goals as goal
 
 pub invariant_of-result : goal.invariant_of-result

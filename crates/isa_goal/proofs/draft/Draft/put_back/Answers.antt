@@ -1,6 +1,6 @@
 use Rattle.std.proofs.Common.{rules, subst}
 use Rattle.isa_goal.specs.Goals.{Goals, Proves}
-use Rattle.isa_goal.proofs.Rotating.{put_back_proves, put_back_state}
+use Rattle.isa_goal.proofs.Focusing.{put_back_proves, put_back_state}
 use Rattle.isa_goal.proofs.draft.Draft.put_back.Goals as goal
 
 pub invariant_of-result : goal.invariant_of-result

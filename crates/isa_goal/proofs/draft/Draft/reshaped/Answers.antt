@@ -1,8 +1,10 @@
 use Rattle.std.proofs.Common.{rules, ◌≡◌, [], Some, length, sym, subst}
 use Rattle.isa_goal.specs.Goals.{Goals, Proves}
-use Rattle.isa_goal.specs.Shape.{shaped, reshaped}
-use Rattle.isa_goal.specs.Reshaping.{reshaped_by}
-use Rattle.isa_goal.proofs.Numbers.{same_length, read_proves, read_gives, reshaped_is}
+use Rattle.isa_subgoal.specs.Shape.{shaped}
+use Rattle.isa_goal.specs.Names.{reshaped}
+use Rattle.isa_subgoal.specs.Reshaping.{reshaped_by}
+use Rattle.isa_subgoal.proofs.Splitting.{same_length}
+use Rattle.isa_goal.proofs.Numbers.{read_proves, read_gives, reshaped_is}
 use Rattle.isa_goal.proofs.draft.Draft.reshaped.Goals as goal
 
 pub invariant_of-result : goal.invariant_of-result

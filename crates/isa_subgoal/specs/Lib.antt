@@ -1,0 +1,5 @@
+pub mod Premises
+pub mod Steps
+pub mod Shape
+pub mod Reshaping
+pub mod Lift

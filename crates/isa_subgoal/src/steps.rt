@@ -1,0 +1,180 @@
+ghost use Rattle.std.specs.Prelude.{◌≡◌, ◌++◌, map, IfOk};
+ghost use Rattle.isa_kernel.specs.Inferences.{Answers};
+ghost use Rattle.isa_subgoal.specs.Premises.{implies};
+ghost use Rattle.isa_subgoal.specs.Steps.{eliminated, introduced, cut, rotated, met_under, raised, raised_rule};
+
+use crate::premises::split_rule;
+use isa_kernel::{InferenceError, Thm, assume, implies_elim, implies_intr, make_imp};
+use isa_terms::{Term, Terms, copied};
+use std::alloc::{AllocError, Global};
+
+/// What is behind the premises, under these as hypotheses.
+#[tactic(auto, unfolding(crate::specs::Steps::eliminated))]
+pub(crate) fn eliminate(alloc: Global, premises: &[Term], th: Thm) -> Result<Thm, InferenceError>
+    ensures { Answers result (eliminated premises.now th) }
+{
+    match premises.split_first() {
+        None => Ok(th),
+        Some((first, rest)) => {
+            let assumed = assume(alloc, first)?;
+            let next = implies_elim(alloc, &th, &assumed)?;
+            eliminate(alloc, rest, next)
+        }
+    }
+}
+
+/// The premises before the theorem, and out of its hypotheses.
+#[tactic(auto, unfolding(crate::specs::Steps::introduced))]
+fn introduce(alloc: Global, premises: &[Term], th: Thm) -> Result<Thm, InferenceError>
+    ensures { Answers result (introduced premises.now th) }
+{
+    match premises.split_first() {
+        None => Ok(th),
+        Some((first, rest)) => {
+            let inner = introduce(alloc, rest, th)?;
+            implies_intr(alloc, first, &inner)
+        }
+    }
+}
+
+/// The theorem `.. ==> C` of a state, with a rule's premises in the place of the subgoal behind the first ones.
+#[tactic(auto, unfolding(crate::specs::Steps::cut))]
+pub fn cut(
+    alloc: Global,
+    before: &[Term],
+    premises: &[Term],
+    th: &Thm,
+    rule: &Thm,
+) -> Result<Thm, InferenceError>
+    ensures { Answers result (cut before.now premises.now th.now rule.now) }
+{
+    let front = eliminate(alloc, before, th.copy(alloc)?)?;
+    let met = eliminate(alloc, premises, rule.copy(alloc)?)?;
+    let middle = implies_elim(alloc, &front, &met)?;
+    let inner = introduce(alloc, premises, middle)?;
+    introduce(alloc, before, inner)
+}
+
+/// Two blocks of leading premises, the second one put in front.
+#[tactic(auto, unfolding(crate::specs::Steps::rotated))]
+pub fn rotate(
+    alloc: Global,
+    first: &[Term],
+    second: &[Term],
+    th: &Thm,
+) -> Result<Thm, InferenceError>
+    ensures { Answers result (rotated first.now second.now th.now) }
+{
+    let opened = eliminate(alloc, first, th.copy(alloc)?)?;
+    let bare = eliminate(alloc, second, opened)?;
+    let inner = introduce(alloc, first, bare)?;
+    introduce(alloc, second, inner)
+}
+
+/// `H1 ==> .. ==> Hm ==> C`.
+pub fn make_implies(
+    alloc: Global,
+    premises: &[Term],
+    conclusion: &Term,
+) -> Result<Term, AllocError>
+    ensures { IfOk result (λ t. t ≡ implies premises.now conclusion.now) }
+{
+    match premises.split_first() {
+        None => conclusion.copy(),
+        Some((first, rest)) => {
+            let behind = make_implies(alloc, rest, conclusion)?;
+            make_imp(alloc, first, &behind)
+        }
+    }
+}
+
+/// The terms, each under the premises, behind those that are done.
+fn put_under(
+    alloc: Global,
+    premises: &[Term],
+    terms: &[Term],
+    mut done: Terms,
+) -> Result<Terms, AllocError>
+    ensures { IfOk result (λ r. r ≡ done ++ map (implies premises.now) terms.now) }
+{
+    match terms.split_first() {
+        None => Ok(done),
+        Some((first, rest)) => {
+            done.push(make_implies(alloc, premises, first)?)?;
+            put_under(alloc, premises, rest, done)
+        }
+    }
+}
+
+/// What is behind the premises, each of which is met under the assumptions.
+#[tactic(auto, unfolding(crate::specs::Steps::met_under))]
+fn meet_under(
+    alloc: Global,
+    assumptions: &[Term],
+    premises: &[Term],
+    th: Thm,
+) -> Result<Thm, InferenceError>
+    ensures { Answers result (met_under assumptions.now premises.now th) }
+{
+    match premises.split_first() {
+        None => Ok(th),
+        Some((first, rest)) => {
+            let wanted = make_implies(alloc, assumptions, first)?;
+            let assumed = assume(alloc, &wanted)?;
+            let met = eliminate(alloc, assumptions, assumed)?;
+            let next = implies_elim(alloc, &th, &met)?;
+            meet_under(alloc, assumptions, rest, next)
+        }
+    }
+}
+
+/// The theorem with its premises and what is behind them under the assumptions.
+#[tactic(auto, unfolding(crate::specs::Steps::raised))]
+fn raise(
+    alloc: Global,
+    assumptions: &[Term],
+    premises: &[Term],
+    th: Thm,
+) -> Result<Thm, InferenceError>
+    ensures { Answers result (raised assumptions.now premises.now th) }
+{
+    let core = meet_under(alloc, assumptions, premises, th)?;
+    let inner = introduce(alloc, assumptions, core)?;
+    let lifted = put_under(alloc, assumptions, premises, Terms::new(alloc))?;
+    introduce(alloc, lifted.as_slice(), inner)
+}
+
+/// A rule of that many premises, lifted over the assumptions.
+#[tactic(auto, unfolding(crate::specs::Steps::raised_rule))]
+pub fn raise_rule(
+    alloc: Global,
+    assumptions: &[Term],
+    count: usize,
+    rule: Thm,
+) -> Result<Thm, InferenceError>
+    ensures { Answers result (raised_rule assumptions.now count rule) }
+{
+    match split_rule(alloc, count, &rule)? {
+        None => Err(InferenceError::Shape),
+        Some(parts) => raise(alloc, assumptions, parts.premises.as_slice(), rule),
+    }
+}
+
+/// The three lists behind one another.
+pub fn spliced(
+    alloc: Global,
+    before: &[Term],
+    between: &[Term],
+    behind: &[Term],
+) -> Result<Terms, AllocError>
+    ensures { IfOk result (λ r. r ≡ before.now ++ (between.now ++ behind.now)) }
+{
+    let mut all = copied(alloc, before)?;
+    for t in between {
+        all.push(t.copy()?)?;
+    }
+    for last in behind {
+        all.push(last.copy()?)?;
+    }
+    Ok(all)
+}
