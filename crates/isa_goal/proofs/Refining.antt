@@ -1,7 +1,8 @@
 -- A refined state stands for the theorem that the inferences give.
 use Rattle.std.proofs.Common.{◌≡◌, ℕ, zero, suc, ◌-◌, ◌<◌, arith, append_assoc, List, [], ◌∷◌, ◌++◌, map, take, drop, nat_eq, Bool, true, false, cond, Option, Some, None, refl, sym, ap, ◌∙◌, subst}
 use Rattle.std.proofs.lemmas.List.{take-append-drop}
-use Rattle.std.specs.Prelude.{option_and_then, option_map, Err}
+use Rattle.std.specs.Prelude.{option_and_then, option_map, Result, Ok, IfOk}
+use Rattle.std.specs.declared.alloc.AllocError.{AllocError}
 use Rattle.isa_terms.specs.Terms.{Tm, bare}
 use Rattle.isa_terms.specs.Equal.{tm_eq}
 use Rattle.isa_kernel.specs.Axioms.{propositions, joined_bases}
@@ -15,10 +16,10 @@ use Rattle.isa_kernel.specs.declared.inference.InferenceError.TheVariants.{Shape
 use Rattle.isa_conversion.proofs.Functions.{bind_some}
 use Rattle.isa_kernel.proofs.Parts.{imp_made}
 use Rattle.isa_goal.specs.Goals.{Goals, IsStanding, theorem_of, Proves, head_split, around, refined, Gives}
-use Rattle.isa_subgoal.specs.Premises.{implies, premises_of, rule_form}
-use Rattle.isa_subgoal.specs.Steps.{cut}
+use Rattle.isa_subgoal.specs.Premises.{implies, rule_form, rule_of}
+use Rattle.isa_subgoal.specs.Rules.{Cuts}
 use Rattle.isa_subgoal.proofs.Deriving.{ArePropositions, propositions_left, derived_propositions}
-use Rattle.isa_subgoal.proofs.Cutting.{cut_is}
+use Rattle.isa_subgoal.proofs.Splitting.{Form, rule_made}
 
 cond_none : {A : Type 0} (b : Bool) (o : Option A) {y : A} → cond b None o ≡ Some y → (b ≡ false) × (o ≡ Some y)
 cond_none true o e = cc
@@ -39,37 +40,29 @@ standing_propositions s d = (derived_propositions s.subgoals s.goal d.derivation
 abbrev pub placed : Goals → Theorem → (List Tm × Tm × List Tm) → List Tm → Goals
 placed s th at bs = record { subgoals = at.0 ++ (bs ++ at.2); goal = s.goal; base = joined_bases s.base th.base }
 
-pub refined_cut : (i n : ℕ) (s : Goals) (th : Theorem) (at : List Tm × Tm × List Tm) (parts : List Tm × Tm) → around i s.subgoals ≡ Some at → rule_form n th ≡ Some parts → tm_eq at.1 parts.1 ≡ true → IsStanding s → IsDerived th →
-    cut at.0 parts.0 (theorem_of s) th ≡ Some (theorem_of (placed s th at parts.0))
-refined_cut i n s th at parts a r e d f =
-    let here = around_made i s.subgoals at a in
-    let all : ArePropositions (at.0 ++ (at.1 ∷ at.2)) = subst (λ ts. ArePropositions ts) here (standing_propositions s d) in
-    let us : ArePropositions at.0 = propositions_left at.0 (at.1 ∷ at.2) all in
-    let bs : ArePropositions parts.0 = rule_propositions n th parts r f in
-    (λ j. cut at.0 parts.0 (record { hyps = []; prop = implies (here j) s.goal; base = s.base }) (rule_made n th parts r j))
-    ∙ cut_is at.0 parts.0 at.2 s.base th.base at.1 parts.1 s.goal us bs e
-
 -- ---- the state that the inferences give
-pub refined_is : (i n : ℕ) (s : Goals) (th thm : Theorem) (us vs bs : List Tm) (w r : Tm) → around i s.subgoals ≡ Some (us, w, vs) → rule_form n th ≡ Some (bs, r) → tm_eq w r ≡ true → IsStanding s → IsDerived th → Proves thm s →
-    (cut us bs thm th ≡ Some (theorem_of (placed s th (us, w, vs) bs))) × (refined i th n s ≡ Some (placed s th (us, w, vs) bs))
-refined_is i n s th thm us vs bs w r a f e d g p = (
-  ap (λ x. cut us bs x th) p.same ∙ refined_cut i n s th (us, w, vs) (bs, r) a f e d g,
-  ap (λ o. option_and_then {T = List Tm × Tm × List Tm} {U = Goals} (λ at. option_and_then {T = Form} {U = Goals} (λ parts. cond (tm_eq at.1 parts.1) (Some (placed s th at parts.0)) None) (rule_form n th)) o) a
-      ∙ ap (λ o. option_and_then {T = Form} {U = Goals} (λ parts. cond (tm_eq w parts.1) (Some (placed s th (us, w, vs) parts.0)) None) o) f
-      ∙ ap (λ b. cond b (Some (placed s th (us, w, vs) bs)) None) e,
-)
+-- the theorem with the rule's premises in the place of the subgoal
+refined_theorem : (i n : ℕ) (s : Goals) (th thm x : Theorem) (us vs bs : List Tm) (w r : Tm) (answer : Result Theorem AllocError) → around i s.subgoals ≡ Some (us, w, vs) → rule_form n th ≡ Some (bs, r) → tm_eq w r ≡ true → Proves thm s → Cuts us bs thm th answer → answer ≡ Ok x → x ≡ theorem_of (placed s th (us, w, vs) bs)
+refined_theorem i n s th thm x us vs bs w r answer a f e p k q =
+    let here : s.subgoals ≡ us ++ (w ∷ vs) = around_made i s.subgoals (us, w, vs) a in
+    subst (λ o. IfOk o (λ y. y ≡ theorem_of (placed s th (us, w, vs) bs))) q
+    (k w r s.goal vs s.base th.base (p.same ∙ (λ j. rule_of (here j) s.goal s.base)) (rule_made n th (bs, r) f) e)
 
-pub refined_err : (e : InferenceError) (o : Option Theorem) (x : Theorem) (w : Option Goals) → Answers (Err e) o → o ≡ Some x → Gives (Err e) w
-refined_err Shape o x w a k = cc
-refined_err Memory o x w a k = tt
+refined_state : (i n : ℕ) (s : Goals) (th : Theorem) (us vs bs : List Tm) (w r : Tm) → around i s.subgoals ≡ Some (us, w, vs) → rule_form n th ≡ Some (bs, r) → tm_eq w r ≡ true → refined i th n s ≡ Some (placed s th (us, w, vs) bs)
+refined_state i n s th us vs bs w r a f e =
+    ap (λ o. option_and_then {T = List Tm × Tm × List Tm} {U = Goals} (λ at. option_and_then {T = Form} {U = Goals} (λ parts. cond (tm_eq at.1 parts.1) (Some (placed s th at parts.0)) None) (rule_form n th)) o) a
+    ∙ ap (λ o. option_and_then {T = Form} {U = Goals} (λ parts. cond (tm_eq w parts.1) (Some (placed s th (us, w, vs) parts.0)) None) o) f
+    ∙ ap (λ b. cond b (Some (placed s th (us, w, vs) bs)) None) e
 
--- the answer's theorem, subgoals and goal make a state
-pub refined_proves : (x : Theorem) (p : Goals) (o : Option Theorem) (ss : List Tm) (g : Tm) → o ≡ Some (theorem_of p) → o ≡ Some x → ss ≡ p.subgoals → g ≡ p.goal → Proves x (record { subgoals = ss; goal = g; base = x.base })
-refined_proves x p o ss g f e s h =
-    let q : x ≡ theorem_of p = cc (e, f) in
-    record { same = λ i. record { hyps = (q i).hyps; prop = (ap (λ (t : Theorem). t.prop) q ∙ (λ j. implies (sym s j) (sym h j))) i; base = x.base } }
+-- the answer's theorem, subgoals and goal make a state, which is the refined one
+pub refined_proves : (i n : ℕ) (s : Goals) (th thm x : Theorem) (us vs bs : List Tm) (w r : Tm) (answer : Result Theorem AllocError) (ss : List Tm) (g : Tm) → around i s.subgoals ≡ Some (us, w, vs) → rule_form n th ≡ Some (bs, r) → tm_eq w r ≡ true → Proves thm s → Cuts us bs thm th answer → answer ≡ Ok x → ss ≡ us ++ (bs ++ vs) → g ≡ s.goal →
+    Proves x (record { subgoals = ss; goal = g; base = x.base })
+refined_proves i n s th thm x us vs bs w r answer ss g a f e p k o l h =
+    let q : x ≡ theorem_of (placed s th (us, w, vs) bs) = refined_theorem i n s th thm x us vs bs w r answer a f e p k o in
+    record { same = λ j. record { hyps = (q j).hyps; prop = (ap (λ (t : Theorem). t.prop) q ∙ (λ m. implies (sym l m) (sym h m))) j; base = x.base } }
 
-pub refined_gives : (x : Theorem) (p : Goals) (o : Option Theorem) (w : Option Goals) (ss : List Tm) (g : Tm) → o ≡ Some (theorem_of p) → w ≡ Some p → o ≡ Some x → ss ≡ p.subgoals → g ≡ p.goal → w ≡ Some (record { subgoals = ss; goal = g; base = x.base })
-refined_gives x p o w ss g f k e s h =
-    let q : x ≡ theorem_of p = cc (e, f) in
-    k ∙ (λ i. Some (record { subgoals = sym s i; goal = sym h i; base = (sym q i).base }))
+pub refined_gives : (i n : ℕ) (s : Goals) (th thm x : Theorem) (us vs bs : List Tm) (w r : Tm) (answer : Result Theorem AllocError) (ss : List Tm) (g : Tm) → around i s.subgoals ≡ Some (us, w, vs) → rule_form n th ≡ Some (bs, r) → tm_eq w r ≡ true → Proves thm s → Cuts us bs thm th answer → answer ≡ Ok x → ss ≡ us ++ (bs ++ vs) → g ≡ s.goal →
+    refined i th n s ≡ Some (record { subgoals = ss; goal = g; base = x.base })
+refined_gives i n s th thm x us vs bs w r answer ss g a f e p k o l h =
+    let q : x ≡ theorem_of (placed s th (us, w, vs) bs) = refined_theorem i n s th thm x us vs bs w r answer a f e p k o in
+    refined_state i n s th us vs bs w r a f e ∙ (λ j. Some (record { subgoals = sym l j; goal = sym h j; base = (sym q j).base }))

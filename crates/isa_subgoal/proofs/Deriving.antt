@@ -13,6 +13,7 @@ use Rattle.isa_kernel.proofs.Members.{bares, Within-append, Member-without}
 use Rattle.isa_kernel.proofs.Rules.{tree_more}
 use Rattle.isa_conversion.proofs.Typed.{Typed, TConst, TApp, type_of_typed, typed_of_type}
 use Rattle.isa_kernel.proofs.Preserved.{derived_typed, imp_both}
+use Rattle.isa_conversion.specs.Instances.{Each}
 use Rattle.isa_subgoal.specs.Premises.{implies}
 
 pub tm_eq_same : (t : Tm) → tm_eq t t ≡ true
@@ -23,8 +24,7 @@ has_type_of t h = ap (λ r. typed_as r prop) h
 
 -- each of the terms is a proposition
 abbrev pub ArePropositions : List Tm → Type 0
-ArePropositions [] = Unit {0}
-ArePropositions (p ∷ ps) = IsProposition p × ArePropositions ps
+ArePropositions ps = Each IsProposition ps
 
 pub propositions_append : (ps qs : List Tm) → ArePropositions ps → ArePropositions qs → ArePropositions (ps ++ qs)
 propositions_append [] qs w v = v

@@ -12,3 +12,4 @@ pub mod Regaining
 pub mod Shaping
 pub mod InForm
 pub mod Heads
+pub mod Answering

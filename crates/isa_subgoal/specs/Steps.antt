@@ -1,10 +1,10 @@
--- The inferences behind the steps of a state.
-use Rattle.std.specs.Prelude.{List, [], ◌∷◌, map, ℕ, Option, Some}
+-- The inferences behind the calls on theorems with premises.
+use Rattle.std.specs.Prelude.{List, [], ◌∷◌, map, Option, Some}
 use Rattle.isa_terms.specs.Terms.{Tm}
 use Rattle.isa_kernel.specs.Forms.{◌>>=◌}
 use Rattle.isa_kernel.specs.Theorem.{Theorem}
 use Rattle.isa_kernel.specs.Inferences.{assumed, implies_introduced, implies_eliminated}
-use Rattle.isa_subgoal.specs.Premises.{implies, rule_form}
+use Rattle.isa_subgoal.specs.Premises.{implies}
 
 -- what is behind the premises, under these as hypotheses
 unfoldable pub eliminated : List Tm → Theorem → Option Theorem
@@ -53,9 +53,3 @@ raised hs ps th = do
   core ← met_under hs ps th
   inner ← introduced hs core
   introduced (map (implies hs) ps) inner
-
--- the same for the first n premises of a rule
-unfoldable pub raised_rule : List Tm → ℕ → Theorem → Option Theorem
-raised_rule hs n th = do
-  parts ← rule_form n th
-  raised hs parts.0 th

@@ -3,9 +3,10 @@ ghost use Rattle.std.specs.Prelude.{◌≡◌, ◌∷◌, IfOk};
 ghost use Rattle.isa_terms.specs.Terms.{Free};
 ghost use Rattle.isa_kernel.specs.Inferences.{Answers};
 ghost use Rattle.isa_subgoal.specs.Reshaping.{opened, name_lengths, colons, regained, regaining, reshaped_by};
+ghost use Rattle.isa_subgoal.specs.Rules.{Reshapes};
 
 use crate::shape::{gathered, is_in_form, shaped, spelled};
-use crate::steps::{cut, eliminate, spliced};
+use crate::steps::{cut_through, eliminate, granted, spliced};
 use isa_kernel::{
     InferenceError, Thm, assume, forall_elim, forall_intr, implies_intr, instantiate_thm, split_imp,
     split_quantifier,
@@ -145,9 +146,9 @@ fn regaining(alloc: Global, t: &Term) -> Result<Thm, InferenceError>
     instantiate_thm(alloc, &Inst::new(alloc), &rule)
 }
 
-/// The theorem of a state with each of the subgoals behind the first ones in the form.
+/// The theorem with each of the subgoals behind the first ones in the form.
 #[tactic(auto, unfolding(crate::specs::Reshaping::reshaped_by))]
-pub(crate) fn reshape(
+fn reshape_behind(
     alloc: Global,
     mut before: Terms,
     subgoals: &[Term],
@@ -160,12 +161,21 @@ pub(crate) fn reshape(
     };
     if is_in_form(first) {
         before.push(first.copy()?)?;
-        return reshape(alloc, before, rest, th);
+        return reshape_behind(alloc, before, rest, th);
     }
     let rule = regaining(alloc, first)?;
     let mut form = Terms::new(alloc);
     form.push(shaped(alloc, first)?)?;
-    let next = cut(alloc, before.as_slice(), form.as_slice(), &th, &rule)?;
+    let next = cut_through(alloc, before.as_slice(), form.as_slice(), &th, &rule)?;
     before.push(form.get(0).copy()?)?;
-    reshape(alloc, before, rest, next)
+    reshape_behind(alloc, before, rest, next)
+}
+
+/// The theorem with each of its premises, which are those, in the form.
+pub fn reshape(alloc: Global, subgoals: &[Term], th: &Thm) -> Result<Thm, AllocError>
+    ensures { Reshapes subgoals.now th.now result }
+{
+    th.is_derived();
+    let copy = th.copy(alloc)?;
+    granted(reshape_behind(alloc, Terms::new(alloc), subgoals, copy))
 }

@@ -1,9 +1,9 @@
-ghost use Rattle.std.specs.Prelude.{◌≡◌, ◌++◌, map, IfOk};
+ghost use Rattle.std.specs.Prelude.{◌≡◌, ◌++◌, map, Ok, IfOk};
 ghost use Rattle.isa_kernel.specs.Inferences.{Answers};
 ghost use Rattle.isa_subgoal.specs.Premises.{implies};
-ghost use Rattle.isa_subgoal.specs.Steps.{eliminated, introduced, cut, rotated, met_under, raised, raised_rule};
+ghost use Rattle.isa_subgoal.specs.Steps.{eliminated, introduced, cut, rotated, met_under, raised};
+ghost use Rattle.isa_subgoal.specs.Rules.{Cuts, Rotates, Raises};
 
-use crate::premises::split_rule;
 use isa_kernel::{InferenceError, Thm, assume, implies_elim, implies_intr, make_imp};
 use isa_terms::{Term, Terms, copied};
 use std::alloc::{AllocError, Global};
@@ -37,9 +37,9 @@ fn introduce(alloc: Global, premises: &[Term], th: Thm) -> Result<Thm, Inference
     }
 }
 
-/// The theorem `.. ==> C` of a state, with a rule's premises in the place of the subgoal behind the first ones.
+/// The theorem with a rule's premises in the place of the premise behind the first ones.
 #[tactic(auto, unfolding(crate::specs::Steps::cut))]
-pub fn cut(
+pub(crate) fn cut_through(
     alloc: Global,
     before: &[Term],
     premises: &[Term],
@@ -55,9 +55,24 @@ pub fn cut(
     introduce(alloc, before, inner)
 }
 
+/// The theorem with a rule's premises in the place of the premise behind the first ones, which the rule's conclusion equals.
+pub fn cut(
+    alloc: Global,
+    before: &[Term],
+    premises: &[Term],
+    th: &Thm,
+    rule: &Thm,
+) -> Result<Thm, AllocError>
+    ensures { Cuts before.now premises.now th.now rule.now result }
+{
+    th.is_derived();
+    rule.is_derived();
+    granted(cut_through(alloc, before, premises, th, rule))
+}
+
 /// Two blocks of leading premises, the second one put in front.
 #[tactic(auto, unfolding(crate::specs::Steps::rotated))]
-pub fn rotate(
+fn turned(
     alloc: Global,
     first: &[Term],
     second: &[Term],
@@ -69,6 +84,19 @@ pub fn rotate(
     let bare = eliminate(alloc, second, opened)?;
     let inner = introduce(alloc, first, bare)?;
     introduce(alloc, second, inner)
+}
+
+/// The theorem with the second block of its leading premises in front of the first one.
+pub fn rotate(
+    alloc: Global,
+    first: &[Term],
+    second: &[Term],
+    th: &Thm,
+) -> Result<Thm, AllocError>
+    ensures { Rotates first.now second.now th.now result }
+{
+    th.is_derived();
+    granted(turned(alloc, first, second, th))
 }
 
 /// `H1 ==> .. ==> Hm ==> C`.
@@ -144,19 +172,26 @@ fn raise(
     introduce(alloc, lifted.as_slice(), inner)
 }
 
-/// A rule of that many premises, lifted over the assumptions.
-#[tactic(auto, unfolding(crate::specs::Steps::raised_rule))]
+/// The rule of those premises under the assumptions: each premise and the conclusion.
 pub fn raise_rule(
     alloc: Global,
     assumptions: &[Term],
-    count: usize,
+    premises: &[Term],
     rule: Thm,
-) -> Result<Thm, InferenceError>
-    ensures { Answers result (raised_rule assumptions.now count rule) }
+) -> Result<Thm, AllocError>
+    ensures { Raises assumptions.now premises.now rule result }
 {
-    match split_rule(alloc, count, &rule)? {
-        None => Err(InferenceError::Shape),
-        Some(parts) => raise(alloc, assumptions, parts.premises.as_slice(), rule),
+    rule.is_derived();
+    granted(raise(alloc, assumptions, premises, rule))
+}
+
+/// Want of memory, in the place of a refusal that can't come.
+pub fn granted(answer: Result<Thm, InferenceError>) -> Result<Thm, AllocError>
+    ensures { IfOk result (λ th. answer ≡ Ok th) }
+{
+    match answer {
+        Ok(th) => Ok(th),
+        Err(_) => Err(AllocError),
     }
 }
 
