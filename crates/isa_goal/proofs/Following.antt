@@ -23,6 +23,8 @@ use Rattle.isa_kernel.proofs.Preserved.{derived_typed}
 use Rattle.isa_conversion.proofs.Typed.{type_of_typed}
 use Rattle.isa_terms.specs.Typing.{HasType}
 use Rattle.isa_conversion.proofs.Normal.{norm_same}
+use Rattle.isa_subgoal.proofs.Consequences.{From, from_all, under, itself, each_of, of_each, chain, map_member}
+use Rattle.isa_subgoal.proofs.Instancing.{from_instance, empty_instance}
 use Rattle.isa_goal.specs.Goals.{Goals, IsStanding, around, refined}
 use Rattle.isa_conversion.specs.Instances.{Each}
 use Rattle.isa_subgoal.specs.Premises.{implies, rule_form}

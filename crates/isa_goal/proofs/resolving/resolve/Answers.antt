@@ -1,5 +1,8 @@
 use Rattle.std.proofs.Common.{rules, ◌≡◌, ap, subst, List}
 use Rattle.std.specs.Prelude.{IfOk, Option}
+use Rattle.isa_terms.specs.Terms.{Tm}
+use Rattle.isa_conversion.specs.Instances.{Each}
+use Rattle.isa_kernel.specs.Logic.{IsProposition}
 use Rattle.isa_kernel.specs.Axioms.{propositions}
 use Rattle.isa_kernel.specs.Theorem.{Theorem}
 use Rattle.isa_kernel.specs.declared.axioms.NamedProp.{NamedProp}
@@ -8,12 +11,13 @@ use Rattle.isa_goal.specs.Resolving.{under_assumptions, LeadsIfSome}
 use Rattle.isa_goal.proofs.Searching.{resolve_is, resolve_asks}
 use Rattle.isa_goal.proofs.resolving.resolve.Goals as goal
 
-pub rule_under_assumptions-requires-assumptions : goal.rule_under_assumptions-requires-assumptions
-rule_under_assumptions-requires-assumptions c =
+pub rule_under_assumptions-requires-clause-assumptions : goal.rule_under_assumptions-requires-clause-assumptions
+rule_under_assumptions-requires-clause-assumptions c =
+    subst (λ (ts : List Tm). Each IsProposition ts) (search rules)
     (resolve_asks c.args.place c.args.state.now c.args.rule.now c.in-Some.field-0-0.now c.in-Some.field-0-2.now c.in-Some.subgoal.now c.args.form.now.conclusion c.in_ok-aim.aim.conclusion c.in_ok-aim.aim.premises c.in-Some-2.found.items c.in_ok-inst.inst c.is_standing.ensures c.requires.first_order c.requires.conclusion (search rules) (search rules) (search rules) (search rules)).0
 
-pub rule_under_assumptions-requires-kept : goal.rule_under_assumptions-requires-kept
-rule_under_assumptions-requires-kept c =
+pub rule_under_assumptions-requires-clause-kept : goal.rule_under_assumptions-requires-clause-kept
+rule_under_assumptions-requires-clause-kept c =
     (resolve_asks c.args.place c.args.state.now c.args.rule.now c.in-Some.field-0-0.now c.in-Some.field-0-2.now c.in-Some.subgoal.now c.args.form.now.conclusion c.in_ok-aim.aim.conclusion c.in_ok-aim.aim.premises c.in-Some-2.found.items c.in_ok-inst.inst c.is_standing.ensures c.requires.first_order c.requires.conclusion (search rules) (search rules) (search rules) (search rules)).1
 
 pub returns-clause-state : goal.returns-clause-state
