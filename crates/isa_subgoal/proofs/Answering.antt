@@ -1,12 +1,8 @@
 -- The calls answer the theorems that they promise.
-use Rattle.std.proofs.Common.{◌≡◌, List, [], ◌∷◌, ◌++◌, map, true, Option, Some, sym, ap, ◌∙◌, subst}
+use Rattle.std.proofs.Common.{◌≡◌, List, [], ◌∷◌, ◌++◌, map, Option, Some, ap, ◌∙◌, subst}
 use Rattle.std.specs.Prelude.{Result, Ok, Err, IfOk}
 use Rattle.std.specs.declared.alloc.AllocError.{AllocError}
 use Rattle.isa_terms.specs.Terms.{Tm, bare}
-use Rattle.isa_terms.specs.Equal.{tm_eq}
-use Rattle.isa_terms.specs.Normal.{IsNormal}
-use Rattle.isa_conversion.specs.Instances.{Each}
-use Rattle.isa_kernel.specs.Logic.{IsProposition}
 use Rattle.isa_kernel.specs.declared.axioms.NamedProp.{NamedProp}
 use Rattle.isa_kernel.specs.declared.inference.InferenceError.{InferenceError}
 use Rattle.isa_kernel.specs.Axioms.{propositions, joined_bases}

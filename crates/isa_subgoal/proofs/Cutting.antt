@@ -4,14 +4,14 @@ use Rattle.std.specs.Prelude.{option_and_then}
 use Rattle.isa_terms.specs.Terms.{Tm}
 use Rattle.isa_terms.specs.Equal.{tm_eq}
 use Rattle.isa_terms.specs.Sets.{has, missing, joined, without}
-use Rattle.isa_kernel.specs.Logic.{prop, imp}
+use Rattle.isa_kernel.specs.Logic.{imp}
 use Rattle.isa_kernel.specs.declared.axioms.NamedProp.{NamedProp}
 use Rattle.isa_kernel.specs.Axioms.{joined_bases}
 use Rattle.isa_kernel.specs.Derivation.{Member, Within}
 use Rattle.isa_kernel.specs.Theorem.{Theorem, IsDerived}
-use Rattle.isa_kernel.specs.Inferences.{has_type, assumed, implies_introduced, implies_eliminated}
+use Rattle.isa_kernel.specs.Inferences.{assumed, implies_introduced, implies_eliminated}
 use Rattle.isa_kernel.proofs.Sound.{assumed_sound, implies_introduced_sound, implies_eliminated_sound}
-use Rattle.isa_conversion.proofs.Functions.{bind_some, cond_some}
+use Rattle.isa_conversion.proofs.Functions.{bind_some}
 use Rattle.isa_kernel.proofs.Members.{Member-left, Member-right, Within-append, Member-without}
 use Rattle.isa_subgoal.specs.Premises.{implies}
 use Rattle.isa_subgoal.specs.Steps.{eliminated, introduced, cut, met_under, raised}

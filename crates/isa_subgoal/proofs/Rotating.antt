@@ -1,19 +1,17 @@
 -- Premises that change places.
 use Rattle.std.specs.Prelude.{option_and_then}
-use Rattle.std.proofs.Common.{◌≡◌, ℕ, zero, suc, ◌-◌, ◌<◌, arith, List, [], ◌∷◌, ◌++◌, append_assoc, take, drop, Option, Some, None, refl, sym, ap, ◌∙◌, subst}
-use Rattle.std.proofs.lemmas.List.{take-append-drop}
+use Rattle.std.proofs.Common.{◌≡◌, ℕ, zero, suc, ◌-◌, ◌<◌, arith, List, [], ◌∷◌, ◌++◌, append_assoc, Option, Some, None, refl, sym, ap, ◌∙◌}
 use Rattle.isa_terms.specs.Terms.{Tm}
 use Rattle.isa_kernel.specs.declared.axioms.NamedProp.{NamedProp}
-use Rattle.isa_kernel.specs.Logic.{prop, imp, IsProposition}
+use Rattle.isa_kernel.specs.Logic.{imp}
 use Rattle.isa_kernel.specs.Forms.{imp_parts}
 use Rattle.isa_kernel.specs.Derivation.{Within}
 use Rattle.isa_kernel.specs.Theorem.{Theorem}
 use Rattle.isa_kernel.proofs.Members.{Member-left, Member-right}
 use Rattle.isa_kernel.proofs.Parts.{imp_made}
-use Rattle.isa_conversion.proofs.Typed.{typed_of_type}
 use Rattle.isa_subgoal.specs.Premises.{implies, leading}
 use Rattle.isa_subgoal.specs.Steps.{eliminated, introduced, rotated}
-use Rattle.isa_subgoal.proofs.Deriving.{ArePropositions, implies_append, implies_typed, derived_propositions, propositions_left, propositions_right}
+use Rattle.isa_subgoal.proofs.Deriving.{ArePropositions, implies_append}
 use Rattle.isa_subgoal.proofs.Cutting.{more_hyps, fewer_hyps, eliminated_is, introduced_is, more_within, two_none}
 
 pub rotated_is : (us vs ws : List Tm) (B : List NamedProp) (c : Tm) → ArePropositions us → ArePropositions vs →

@@ -1,17 +1,12 @@
 -- The premises of a proposition and of a rule.
-use Rattle.std.proofs.Common.{◌≡◌, ℕ, zero, suc, ◌-◌, ◌<◌, arith, append_assoc, List, [], ◌∷◌, ◌++◌, map, take, drop, nat_eq, Bool, true, false, cond, Option, Some, None, refl, sym, ap, ◌∙◌, subst}
-use Rattle.std.proofs.lemmas.List.{take-append-drop}
-use Rattle.std.specs.Prelude.{option_and_then, option_map, Err}
+use Rattle.std.proofs.Common.{◌≡◌, ℕ, zero, suc, ◌-◌, ◌<◌, arith, append_assoc, List, [], ◌∷◌, ◌++◌, map, Option, Some, None, refl, sym, ap, ◌∙◌, subst}
+use Rattle.std.specs.Prelude.{option_and_then, option_map}
 use Rattle.isa_terms.specs.Terms.{Tm, bare}
-use Rattle.isa_terms.specs.Equal.{tm_eq}
-use Rattle.isa_kernel.specs.Axioms.{propositions, joined_bases}
+use Rattle.isa_kernel.specs.Axioms.{propositions}
 use Rattle.isa_kernel.specs.Logic.{imp}
 use Rattle.isa_kernel.specs.Forms.{imp_parts}
 use Rattle.isa_kernel.specs.Derivation.{Derives}
 use Rattle.isa_kernel.specs.Theorem.{Theorem, IsDerived}
-use Rattle.isa_kernel.specs.Inferences.{Answers}
-use Rattle.isa_kernel.specs.declared.inference.InferenceError.{InferenceError}
-use Rattle.isa_kernel.specs.declared.inference.InferenceError.TheVariants.{Shape, Memory}
 use Rattle.isa_conversion.proofs.Functions.{bind_some}
 use Rattle.isa_kernel.proofs.Parts.{imp_made}
 use Rattle.std.proofs.Common.{length}

@@ -1,5 +1,5 @@
 -- Propositions as premises and a conclusion, and the theorems that have this form.
-use Rattle.std.specs.Prelude.{◌≡◌, ℕ, zero, suc, List, [], ◌∷◌, Option, Some, None, Bool, false, is_some, codes}
+use Rattle.std.specs.Prelude.{ℕ, zero, suc, List, [], ◌∷◌, Option, Some, None, Bool, false, is_some, codes}
 use Rattle.isa_terms.specs.Terms.{Tm, App}
 use Rattle.isa_kernel.specs.Logic.{imp}
 use Rattle.isa_kernel.specs.Forms.{◌>>=◌, imp_parts, const_type}

@@ -102,11 +102,7 @@ pub fn split_leading(count: usize, t: &Term, mut done: Terms) -> Result<Premises
 }
 
 /// The premises and the conclusion of a theorem without hypotheses that has that many premises.
-pub fn split_rule(
-    alloc: Global,
-    count: usize,
-    th: &Thm,
-) -> Result<Option<Premises>, AllocError>
+pub fn split_rule(alloc: Global, count: usize, th: &Thm) -> Result<Option<Premises>, AllocError>
     ensures { IfOk result (λ found. option_map {U = List Tm × Tm} (λ r. (r.premises, r.conclusion)) found ≡ rule_form count th.now) }
 {
     match th.hyps().as_slice().split_first() {

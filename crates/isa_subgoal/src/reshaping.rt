@@ -8,8 +8,8 @@ ghost use Rattle.isa_subgoal.specs.Rules.{Reshapes};
 use crate::shape::{gathered, is_in_form, shaped, spelled};
 use crate::steps::{cut_through, eliminate, granted, spliced};
 use isa_kernel::{
-    InferenceError, Thm, assume, forall_elim, forall_intr, implies_intr, instantiate_thm, split_imp,
-    split_quantifier,
+    InferenceError, Thm, assume, forall_elim, forall_intr, implies_intr, instantiate_thm,
+    split_imp, split_quantifier,
 };
 use isa_terms::{Inst, Name, Term, TermNode, Terms, Typ, copied};
 use std::alloc::{AllocError, Global};

@@ -72,12 +72,7 @@ pub fn cut(
 
 /// Two blocks of leading premises, the second one put in front.
 #[tactic(auto, unfolding(crate::specs::Steps::rotated))]
-fn turned(
-    alloc: Global,
-    first: &[Term],
-    second: &[Term],
-    th: &Thm,
-) -> Result<Thm, InferenceError>
+fn turned(alloc: Global, first: &[Term], second: &[Term], th: &Thm) -> Result<Thm, InferenceError>
     ensures { Answers result (rotated first.now second.now th.now) }
 {
     let opened = eliminate(alloc, first, th.copy(alloc)?)?;
@@ -87,12 +82,7 @@ fn turned(
 }
 
 /// The theorem with the second block of its leading premises in front of the first one.
-pub fn rotate(
-    alloc: Global,
-    first: &[Term],
-    second: &[Term],
-    th: &Thm,
-) -> Result<Thm, AllocError>
+pub fn rotate(alloc: Global, first: &[Term], second: &[Term], th: &Thm) -> Result<Thm, AllocError>
     ensures { Rotates first.now second.now th.now result }
 {
     th.is_derived();
@@ -100,11 +90,7 @@ pub fn rotate(
 }
 
 /// `H1 ==> .. ==> Hm ==> C`.
-pub fn make_implies(
-    alloc: Global,
-    premises: &[Term],
-    conclusion: &Term,
-) -> Result<Term, AllocError>
+pub fn make_implies(alloc: Global, premises: &[Term], conclusion: &Term) -> Result<Term, AllocError>
     ensures { IfOk result (λ t. t ≡ implies premises.now conclusion.now) }
 {
     match premises.split_first() {

@@ -1,4 +1,4 @@
-use Rattle.std.proofs.Common.{rules, [], subst}
+use Rattle.std.proofs.Common.{rules, []}
 use Rattle.isa_kernel.specs.Inferences.{Answers}
 use Rattle.isa_subgoal.specs.Reshaping.{reshaped_by}
 use Rattle.isa_subgoal.proofs.Answering.{reshapes}

@@ -1,4 +1,3 @@
-use Rattle.std.proofs.Common.{rules}
 use Rattle.isa_subgoal.proofs.Answering.{cuts}
 use Rattle.isa_subgoal.proofs.steps.cut.Goals as goal
 

@@ -1,4 +1,3 @@
-use Rattle.std.proofs.Common.{rules}
 use Rattle.isa_subgoal.proofs.Answering.{raises}
 use Rattle.isa_subgoal.proofs.steps.raise_rule.Goals as goal
 

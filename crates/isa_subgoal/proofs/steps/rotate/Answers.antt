@@ -1,4 +1,3 @@
-use Rattle.std.proofs.Common.{rules}
 use Rattle.isa_subgoal.proofs.Answering.{rotates}
 use Rattle.isa_subgoal.proofs.steps.rotate.Goals as goal
 
