@@ -1,35 +1,22 @@
 -- States that follow from others.
-use Rattle.std.proofs.Common.{◌≡◌, ◌⊎◌, inl, inr, ℕ, List, [], ◌∷◌, ◌++◌, map, true, false, cond, ◌&&◌, Some, None, refl, sym, ap, ◌∙◌, subst}
-use Rattle.isa_terms.specs.Types.{Ty, Tys, TyCon, TyFixed, TyUnknown, NoTys, MoreTys}
-use Rattle.isa_terms.specs.Terms.{Tm, Const, Free, Unknown, Bound, Abs, App, bare}
+use Rattle.std.proofs.Common.{◌≡◌, ◌⊎◌, inl, inr, ℕ, List, [], ◌∷◌, ◌++◌, map, true, Some, refl, sym, ap, ◌∙◌, subst}
+use Rattle.isa_terms.specs.Terms.{Tm, bare}
 use Rattle.isa_terms.specs.Equal.{tm_eq}
-use Rattle.isa_terms.specs.Instance.{Instance, instance_of, inst_ty, inst_tys, inst_tm, in_tms}
-use Rattle.isa_terms.proofs.Bare.{tm_decides, type_at_bare}
-use Rattle.isa_terms.specs.Norm.{norm}
-use Rattle.isa_terms.specs.Normal.{IsNormal}
-use Rattle.isa_kernel.specs.Logic.{prop, imp, eq}
+use Rattle.isa_terms.specs.Instance.{Instance, instance_of}
+use Rattle.isa_terms.proofs.Bare.{tm_decides}
 use Rattle.isa_kernel.specs.Axioms.{propositions}
-use Rattle.isa_kernel.specs.declared.axioms.NamedProp.{NamedProp}
-use Rattle.isa_kernel.specs.Derivation.{Member, Within, Tree, EqualElim, Derives}
-use Rattle.isa_kernel.specs.Derivation as derivation
+use Rattle.isa_kernel.specs.Derivation.{Member, Derives}
 use Rattle.isa_kernel.specs.Theorem.{Theorem, IsDerived}
-use Rattle.isa_kernel.specs.Inferences.{keeps, instantiated}
+use Rattle.isa_kernel.specs.Inferences.{keeps}
 use Rattle.isa_conversion.proofs.Functions.{bind_some, cond_some}
 use Rattle.isa_kernel.proofs.Members.{bares, Member-left, Member-right}
-use Rattle.isa_kernel.proofs.Instances.{bare_entries, inst_bare, kept, in_tms_false}
-use Rattle.isa_kernel.proofs.Closed.{norm_tree}
-use Rattle.isa_kernel.proofs.Rules.{tree_more}
-use Rattle.isa_kernel.proofs.Preserved.{derived_typed}
-use Rattle.isa_conversion.proofs.Typed.{type_of_typed}
-use Rattle.isa_terms.specs.Typing.{HasType}
-use Rattle.isa_conversion.proofs.Normal.{norm_same}
 use Rattle.isa_subgoal.proofs.Consequences.{From, from_all, under, itself, each_of, of_each, chain, map_member}
 use Rattle.isa_subgoal.proofs.Instancing.{from_instance, empty_instance}
 use Rattle.isa_goal.specs.Goals.{Goals, IsStanding, around, refined}
 use Rattle.isa_conversion.specs.Instances.{Each}
-use Rattle.isa_subgoal.specs.Premises.{implies, rule_form}
+use Rattle.isa_subgoal.specs.Premises.{rule_form}
 use Rattle.isa_goal.specs.Follows.{Follows, Reduces, instanced, IsNormalState}
-use Rattle.isa_subgoal.proofs.Deriving.{ArePropositions, propositions_append, propositions_left, propositions_right, propositions_bare, propositions_member, implies_bare, derive_more, derive_assume, derive_intros, derive_elims}
+use Rattle.isa_subgoal.proofs.Deriving.{ArePropositions, propositions_append, propositions_left, propositions_right, propositions_bare, propositions_member, derive_more, derive_assume}
 use Rattle.isa_goal.proofs.Refining.{around_made, standing_propositions, placed}
 use Rattle.isa_subgoal.proofs.Splitting.{rule_made, rule_propositions}
 

@@ -18,7 +18,7 @@ use Rattle.isa_goal.specs.Names.{unknowns_in, set_terms}
 use Rattle.isa_subgoal.specs.Rules.{Raises}
 use Rattle.isa_goal.specs.Matching.{matched, is_first_order}
 use Rattle.isa_goal.specs.Resolving.{apart, new_types, matching, under_assumptions}
-use Rattle.isa_subgoal.proofs.Deriving.{ArePropositions, implies_typed, derived_propositions, propositions_right}
+use Rattle.isa_subgoal.proofs.Deriving.{ArePropositions, implies_typed, propositions_right}
 use Rattle.isa_subgoal.proofs.Answering.{raised_derived}
 use Rattle.isa_goal.proofs.Refining.{around_made, standing_propositions}
 use Rattle.isa_subgoal.proofs.Instancing.{instance_implies, instantiated_is}

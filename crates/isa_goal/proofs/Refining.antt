@@ -1,24 +1,16 @@
 -- A refined state stands for the theorem that the inferences give.
-use Rattle.std.proofs.Common.{◌≡◌, ℕ, zero, suc, ◌-◌, ◌<◌, arith, append_assoc, List, [], ◌∷◌, ◌++◌, map, take, drop, nat_eq, Bool, true, false, cond, Option, Some, None, refl, sym, ap, ◌∙◌, subst}
+use Rattle.std.proofs.Common.{◌≡◌, ℕ, ◌-◌, List, [], ◌∷◌, ◌++◌, take, drop, nat_eq, Bool, true, false, cond, Option, Some, None, refl, sym, ap, ◌∙◌, subst}
 use Rattle.std.proofs.lemmas.List.{take-append-drop}
 use Rattle.std.specs.Prelude.{option_and_then, option_map, Result, Ok, IfOk}
 use Rattle.std.specs.declared.alloc.AllocError.{AllocError}
-use Rattle.isa_terms.specs.Terms.{Tm, bare}
+use Rattle.isa_terms.specs.Terms.{Tm}
 use Rattle.isa_terms.specs.Equal.{tm_eq}
-use Rattle.isa_kernel.specs.Axioms.{propositions, joined_bases}
-use Rattle.isa_kernel.specs.Logic.{imp}
-use Rattle.isa_kernel.specs.Forms.{imp_parts}
-use Rattle.isa_kernel.specs.Derivation.{Derives}
-use Rattle.isa_kernel.specs.Theorem.{Theorem, IsDerived}
-use Rattle.isa_kernel.specs.Inferences.{Answers}
-use Rattle.isa_kernel.specs.declared.inference.InferenceError.{InferenceError}
-use Rattle.isa_kernel.specs.declared.inference.InferenceError.TheVariants.{Shape, Memory}
-use Rattle.isa_conversion.proofs.Functions.{bind_some}
-use Rattle.isa_kernel.proofs.Parts.{imp_made}
-use Rattle.isa_goal.specs.Goals.{Goals, IsStanding, theorem_of, Proves, head_split, around, refined, Gives}
+use Rattle.isa_kernel.specs.Axioms.{joined_bases}
+use Rattle.isa_kernel.specs.Theorem.{Theorem}
+use Rattle.isa_goal.specs.Goals.{Goals, IsStanding, theorem_of, Proves, head_split, around, refined}
 use Rattle.isa_subgoal.specs.Premises.{implies, rule_form, rule_of}
 use Rattle.isa_subgoal.specs.Rules.{Cuts}
-use Rattle.isa_subgoal.proofs.Deriving.{ArePropositions, propositions_left, derived_propositions}
+use Rattle.isa_subgoal.proofs.Deriving.{ArePropositions, derived_propositions}
 use Rattle.isa_subgoal.proofs.Splitting.{Form, rule_made}
 
 cond_none : {A : Type 0} (b : Bool) (o : Option A) {y : A} → cond b None o ≡ Some y → (b ≡ false) × (o ≡ Some y)

@@ -10,7 +10,7 @@ use Rattle.isa_kernel.specs.Logic.{IsProposition}
 use Rattle.isa_kernel.specs.Inferences.{keeps}
 use Rattle.isa_kernel.specs.Axioms.{propositions}
 use Rattle.isa_kernel.specs.Derivation.{Member, Within}
-use Rattle.isa_kernel.specs.Theorem.{Theorem, IsDerived}
+use Rattle.isa_kernel.specs.Theorem.{Theorem}
 use Rattle.isa_kernel.proofs.Members.{bases_left, bases_right}
 use Rattle.isa_goal.specs.Goals.{Goals, IsStanding, around, refined}
 use Rattle.isa_subgoal.specs.Premises.{premises, conclusion}

@@ -1,22 +1,13 @@
 -- A proposition as the only subgoal of itself.
-use Rattle.std.proofs.Common.{◌≡◌, inl, inr, List, [], ◌∷◌, ◌++◌, map, Bool, true, false, cond, Some, None, refl, sym, ap, ◌∙◌, subst, append-nil}
-use Rattle.std.specs.Prelude.{option_and_then}
+use Rattle.std.proofs.Common.{◌≡◌, List, [], ◌∷◌, cond, Some, refl, sym, ap, ◌∙◌, subst}
 use Rattle.isa_terms.specs.Terms.{Tm}
-use Rattle.isa_terms.specs.Equal.{tm_eq}
-use Rattle.isa_terms.specs.Sets.{has, missing, joined, without}
+use Rattle.isa_terms.specs.Sets.{without}
 use Rattle.isa_kernel.specs.Logic.{prop, imp}
-use Rattle.isa_kernel.specs.declared.axioms.NamedProp.{NamedProp}
-use Rattle.isa_kernel.specs.Axioms.{joined_bases}
-use Rattle.isa_kernel.specs.Derivation.{Member, Within}
-use Rattle.isa_kernel.specs.Theorem.{Theorem, IsDerived}
-use Rattle.isa_kernel.specs.Inferences.{has_type, assumed, implies_introduced, implies_eliminated}
-use Rattle.isa_kernel.proofs.Sound.{assumed_sound, implies_introduced_sound, implies_eliminated_sound}
-use Rattle.isa_conversion.proofs.Functions.{bind_some, cond_some}
-use Rattle.isa_kernel.proofs.Members.{Member-left, Member-right, Within-append, Member-without}
-use Rattle.isa_subgoal.specs.Premises.{implies}
+use Rattle.isa_kernel.specs.Theorem.{Theorem}
+use Rattle.isa_kernel.specs.Inferences.{has_type, assumed, implies_introduced}
+use Rattle.isa_conversion.proofs.Functions.{cond_some}
 use Rattle.isa_goal.specs.Goals.{Proves}
-use Rattle.isa_subgoal.specs.Steps.{eliminated, introduced, cut, met_under, raised}
-use Rattle.isa_subgoal.proofs.Deriving.{tm_eq_same, has_type_of, ArePropositions, implies_append, implies_proposition, propositions_under}
+use Rattle.isa_subgoal.proofs.Deriving.{tm_eq_same}
 
 without_same : (t : Tm) → without t (t ∷ []) ≡ []
 without_same t = ap (λ b. cond b [] (t ∷ [])) (tm_eq_same t)

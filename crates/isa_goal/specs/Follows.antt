@@ -1,5 +1,5 @@
 -- How a state follows from another.
-use Rattle.std.specs.Prelude.{◌≡◌, ℕ, List, [], ◌∷◌, ◌++◌, map, true, Some, Result, Ok, Err}
+use Rattle.std.specs.Prelude.{◌≡◌, ℕ, List, [], ◌++◌, map, true, Some, Result, Ok, Err}
 use Rattle.isa_terms.specs.Terms.{Tm, bare}
 use Rattle.isa_terms.specs.Instance.{Instance, instance_of}
 use Rattle.isa_terms.specs.Normal.{IsNormal}
