@@ -43,6 +43,6 @@ is_all _ = false
 abbrev pub rule_form : ℕ → Theorem → Option (List Tm × Tm)
 rule_form n th = elim th.hyps [ [] ↦ premises_of n th.prop | h ∷ hs ↦ None ]
 
--- the theorem without hypotheses that the premises imply the conclusion, by those axioms
+-- the theorem without hypotheses that the premises imply the conclusion, by the axioms B
 abbrev pub rule_of : List Tm → Tm → List NamedProp → Theorem
 rule_of ps c B = record { hyps = []; prop = implies ps c; base = B }

@@ -55,7 +55,7 @@ regaining t = do
   rule ← implies_introduced (moved t) whole
   instantiated (record { types = []; terms = [] }) rule
 
--- the theorem of a state with each of the subgoals behind the first ones in the form
+-- the theorem with each of the subgoals behind the first ones in the form
 unfoldable pub reshaped_by : List Tm → List Tm → Theorem → Option Theorem
 reshaped_by us [] th = Some th
 reshaped_by us (t ∷ ts) th = if is_in_form t then reshaped_by (us ++ t ∷ []) ts th else do

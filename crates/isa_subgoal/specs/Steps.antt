@@ -21,7 +21,7 @@ introduced (p ∷ ps) th = do
   inner ← introduced ps th
   implies_introduced p inner
 
--- the theorem `.. ==> C` of a state, with the premises of a rule in the place of the subgoal behind the first ones
+-- the theorem with the premises of a rule in the place of the premise behind the first ones
 unfoldable pub cut : List Tm → List Tm → Theorem → Theorem → Option Theorem
 cut us bs th rule = do
   front ← eliminated us th
