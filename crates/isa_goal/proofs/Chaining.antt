@@ -18,23 +18,18 @@ use Rattle.isa_kernel.specs.Logic.{prop, IsProposition}
 use Rattle.isa_kernel.specs.Derivation.{Member, Derives}
 use Rattle.isa_kernel.specs.Inferences.{keeps, typed_as}
 use Rattle.isa_kernel.proofs.Members.{bares}
-use Rattle.isa_goal.specs.Goals.{Goals, implies, IsStanding}
-use Rattle.isa_goal.specs.Shape.{reshaped}
-use Rattle.isa_goal.specs.Names.{naming, normalised, canon}
+use Rattle.isa_goal.specs.Goals.{Goals, IsStanding}
+use Rattle.isa_subgoal.specs.Premises.{implies}
+use Rattle.isa_goal.specs.Names.{reshaped, naming, normalised, canon}
 use Rattle.isa_goal.specs.Follows.{Follows, IsNormalState, instanced}
-use Rattle.isa_goal.specs.Follows as follows
-use Rattle.isa_goal.proofs.Deriving.{ArePropositions, implies_bare, derived_propositions, propositions_member}
-use Rattle.isa_goal.proofs.Following.{From, each_of, of_each, chain, map_member, from_instance}
+use Rattle.isa_subgoal.proofs.Deriving.{ArePropositions, implies_bare, derived_propositions, propositions_member}
+use Rattle.isa_subgoal.proofs.Consequences.{From, each_of, of_each, chain, map_member}
+use Rattle.isa_subgoal.proofs.Instancing.{from_instance}
 use Rattle.isa_goal.proofs.Numbers.{naming_keeps, is_kept, form_propositions}
 
 pub kept_keeps : (es : List TypeEntry) (fs : List TermEntry) → IsKept es fs → keeps es fs ≡ true
 kept_keeps es [] k = refl
 kept_keeps es (f ∷ fs) k = λ i. (ap (λ r. typed_as r (inst_ty es f.typ)) k.0 ∙ (ty_decides (inst_ty es f.typ) (inst_ty es f.typ)).1 refl) i && kept_keeps es fs k.1 i
-
-each_one : (P : Tm → Type 0) (ts : List Tm) → Each P ts → (t : Tm) → Member t ts → P t
-each_one P [] e t m = absurd m
-each_one P (u ∷ us) e t (inl q) = subst P (sym q) e.0
-each_one P (u ∷ us) e t (inr m) = each_one P us e.1 t m
 
 -- an instance and then another, on the terms
 module _ (n m : Instance) (ts : List Tm) (k : keeps n.types n.terms ≡ true) (l : keeps m.types m.terms ≡ true) where
@@ -42,7 +37,7 @@ module _ (n m : Instance) (ts : List Tm) (k : keeps n.types n.terms ≡ true) (l
   both_keep = kept_keeps (followed_by n m ts).types (followed_by n m ts).terms (instances_compose_law n m ts (is_kept n.types n.terms k) (is_kept m.types m.terms l)).0
 
   pub both_are : (t : Tm) → Member t ts → IsProposition t → bare (instance_of (followed_by n m ts) t) ≡ bare (instance_of m (instance_of n t))
-  both_are t i h = each_one (λ u. (T : Ty) → HasType u T → bare (instance_of (followed_by n m ts) u) ≡ bare (instance_of m (instance_of n u))) ts (instances_compose_law n m ts (is_kept n.types n.terms k) (is_kept m.types m.terms l)).1 t i prop h
+  both_are t i h = of_each (λ u. (T : Ty) → HasType u T → bare (instance_of (followed_by n m ts) u) ≡ bare (instance_of m (instance_of n u))) ts (instances_compose_law n m ts (is_kept n.types n.terms k) (is_kept m.types m.terms l)).1 t i prop h
 
 pub instance_proposition : (n : Instance) (t : Tm) → keeps n.types n.terms ≡ true → IsProposition t → IsProposition (instance_of n t)
 instance_proposition n t k h = type_of_typed (inst_norm_typed n.types n.terms (is_kept n.types n.terms k) (typed_of_type [] t prop h))
@@ -87,7 +82,7 @@ canon_propositions s w = map_propositions (naming (reshaped (normalised s))) (re
 instance_normal : (n : Instance) (t : Tm) → keeps n.types n.terms ≡ true → IsProposition t → IsNormal (instance_of n t)
 instance_normal n t k h = norm_normal (inst_typed n.types n.terms (is_kept n.types n.terms k) (typed_of_type [] t prop h))
 
-map_normal : (n : Instance) (ts : List Tm) → keeps n.types n.terms ≡ true → ArePropositions ts → follows.Each IsNormal (map (instance_of n) ts)
+map_normal : (n : Instance) (ts : List Tm) → keeps n.types n.terms ≡ true → ArePropositions ts → Each IsNormal (map (instance_of n) ts)
 map_normal n [] k w = tt
 map_normal n (t ∷ ts) k w = (instance_normal n t k w.0, map_normal n ts k w.1)
 

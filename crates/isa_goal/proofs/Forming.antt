@@ -8,14 +8,15 @@ use Rattle.isa_terms.specs.declared.inst.TypeEntry.{TypeEntry}
 use Rattle.isa_terms.specs.declared.inst.TermEntry.{TermEntry}
 use Rattle.isa_kernel.specs.Logic.{IsProposition}
 use Rattle.isa_goal.specs.Goals.{Goals, IsStanding}
-use Rattle.isa_goal.specs.Names.{next_type_number, next_number, type_entries, entries, set_types, set_terms, type_unknowns_in, type_unknowns_of, unknowns_in, unknowns_of, type_naming, term_naming, naming, normalised, canon}
-use Rattle.isa_goal.specs.Shape.{is_in_form, shaped, reshaped}
-use Rattle.isa_goal.specs.Follows.{Each, IsNormalState}
+use Rattle.isa_goal.specs.Names.{next_type_number, next_number, type_entries, entries, set_types, set_terms, type_unknowns_in, type_unknowns_of, unknowns_in, unknowns_of, type_naming, term_naming, naming, normalised, reshaped, canon}
+use Rattle.isa_subgoal.specs.Shape.{is_in_form, shaped}
+use Rattle.isa_conversion.specs.Instances.{Each}
+use Rattle.isa_goal.specs.Follows.{IsNormalState}
 use Rattle.isa_goal.specs.Canonical.{IsFormedState}
-use Rattle.isa_goal.proofs.Deriving.{ArePropositions, derived_propositions}
+use Rattle.isa_subgoal.proofs.Deriving.{ArePropositions, derived_propositions}
 use Rattle.isa_goal.proofs.Chaining.{instance_proposition, normalised_normal}
-use Rattle.isa_goal.proofs.InForm.{shaped_in_form}
-use Rattle.isa_goal.proofs.Shaping.{shaped_normal}
+use Rattle.isa_subgoal.proofs.InForm.{shaped_in_form}
+use Rattle.isa_subgoal.proofs.Shaping.{shaped_normal}
 use Rattle.isa_goal.proofs.Unknowns.{IsTypeUnknown, IsUnknown, RenamesTypes, RenamesTerms, instance_renamed, form_renamed}
 
 -- ---- a state's naming renames

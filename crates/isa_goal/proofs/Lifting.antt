@@ -1,6 +1,7 @@
 -- What the inferences behind a resolution answer.
 use Rattle.std.proofs.Common.{◌≡◌, ℕ, List, [], ◌∷◌, ◌++◌, map, length, true, ◌&&◌, Some, refl, sym, ap, ◌∙◌, subst}
-use Rattle.std.specs.Prelude.{option_and_then}
+use Rattle.std.specs.Prelude.{Result, IfOk}
+use Rattle.std.specs.declared.alloc.AllocError.{AllocError}
 use Rattle.isa_terms.specs.Terms.{Tm, Const, Free, Unknown, Bound, Abs, App}
 use Rattle.isa_terms.specs.Instance.{Instance, instance_of, inst_ty}
 use Rattle.isa_terms.specs.declared.inst.TypeEntry.{TypeEntry}
@@ -11,18 +12,20 @@ use Rattle.isa_kernel.specs.Theorem.{Theorem, IsDerived}
 use Rattle.isa_kernel.specs.Inferences.{keeps, instantiated}
 use Rattle.isa_kernel.proofs.Instances.{instantiated_sound}
 use Rattle.isa_conversion.proofs.Typed.{typed_of_type}
-use Rattle.isa_goal.specs.Goals.{Goals, implies, premises, conclusion, premises_of, IsStanding, around}
+use Rattle.isa_goal.specs.Goals.{Goals, IsStanding, around}
+use Rattle.isa_subgoal.specs.Premises.{implies, premises, conclusion, rule_form, rule_of}
 use Rattle.isa_goal.specs.Names.{unknowns_in, set_terms}
-use Rattle.isa_goal.specs.Steps.{raised, raised_rule}
+use Rattle.isa_subgoal.specs.Rules.{Raises}
 use Rattle.isa_goal.specs.Matching.{matched, is_first_order}
-use Rattle.isa_goal.specs.Resolving.{apart, new_types, matching, lifted, lifted_by}
-use Rattle.isa_goal.proofs.Deriving.{ArePropositions, implies_typed, derived_propositions, propositions_right}
-use Rattle.isa_goal.proofs.Cutting.{raised_is}
+use Rattle.isa_goal.specs.Resolving.{apart, new_types, matching, under_assumptions}
+use Rattle.isa_subgoal.proofs.Deriving.{ArePropositions, implies_typed, propositions_right}
+use Rattle.isa_subgoal.proofs.Answering.{raised_derived}
 use Rattle.isa_goal.proofs.Refining.{around_made, standing_propositions}
-use Rattle.isa_goal.proofs.Following.{instance_implies, instantiated_is}
-use Rattle.isa_goal.proofs.Numbers.{premises_all, same_length, keeps_sets}
+use Rattle.isa_subgoal.proofs.Instancing.{instance_implies, instantiated_is}
+use Rattle.isa_subgoal.proofs.Splitting.{premises_all, same_length}
+use Rattle.isa_goal.proofs.Numbers.{keeps_sets}
 use Rattle.isa_goal.proofs.Matches.{matched_keeps}
-use Rattle.isa_goal.proofs.Counts.{parts_made}
+use Rattle.isa_subgoal.proofs.Counts.{parts_made}
 
 pub apart_keeps : (es : List TypeEntry) (us : List Tm) → keeps es (apart es us) ≡ true
 unfolding apart
@@ -61,19 +64,21 @@ rule_instance n th h k =
     ∙ instantiated_is n (implies (premises th.prop) (conclusion th.prop)) th.base k
     ∙ ap (λ p. Some (record { hyps = []; prop = p; base = th.base })) (instance_implies n (premises th.prop) (conclusion th.prop))
 
-pub lifted_is : (i : ℕ) (s : Goals) (th : Theorem) (at : List Tm × Tm × List Tm) (n : Instance) → IsStanding s → IsDerived th → th.hyps ≡ [] → around i s.subgoals ≡ Some at → keeps n.types n.terms ≡ true →
-    lifted_by (premises at.1) (length (premises th.prop)) n th ≡ Some (lifted (premises at.1) n th)
-unfolding raised_rule
-lifted_is i s th at n d f h a k =
-    let hs : List Tm = premises at.1 in
-    let c : ℕ = length (premises th.prop) in
-    let ps : List Tm = map (instance_of n) (premises th.prop) in
-    let q : Tm = instance_of n (conclusion th.prop) in
-    let inst : Theorem = record { hyps = []; prop = implies ps q; base = th.base } in
-    let made : instantiated n th ≡ Some inst = rule_instance n th h k in
-    let sound : IsDerived inst = instantiated_sound n th inst made f in
-    let v : ArePropositions ps = (derived_propositions ps q sound.derivation).0 in
-    ap (λ o. option_and_then (λ x. raised_rule hs c x) o) made
-    ∙ ap (λ o. option_and_then {T = List Tm × Tm} {U = Theorem} (λ parts. raised hs parts.0 inst) o) ((λ j. premises_of (sym (same_length (instance_of n) (premises th.prop)) j) (implies ps q)) ∙ premises_all ps q)
-    ∙ raised_is hs ps th.base q (aim_propositions i s at d a) v
-    ∙ ap (λ ts. Some (record { hyps = []; prop = implies ts (implies hs q); base = th.base })) (map_twice (implies hs) (instance_of n) (premises th.prop))
+pub under_is : (hs ps : List Tm) (q : Tm) (n : Instance) (th inst : Theorem) (k : ℕ) (answer : Result Theorem AllocError) → th.hyps ≡ [] → k ≡ length (premises th.prop) → ArePropositions hs → keeps n.types n.terms ≡ true → instantiated n th ≡ Some inst → rule_form k inst ≡ Some (ps, q) → Raises hs ps inst answer → IfOk answer (λ x. x ≡ under_assumptions hs n th)
+under_is hs ps q n th inst k answer h l w kept e f r =
+    let qs : List Tm = map (instance_of n) (premises th.prop) in
+    let d : Tm = instance_of n (conclusion th.prop) in
+    let made : inst ≡ rule_of qs d th.base = cc (e, rule_instance n th h kept) in
+    let form : rule_form k inst ≡ Some (qs, d) = (λ i. rule_form ((l ∙ sym (same_length (instance_of n) (premises th.prop))) i) (made i)) ∙ premises_all qs d in
+    let parts : ◌≡◌ {A = List Tm × Tm} (ps, q) (qs, d) = cc (f, form) in
+    let raised : Raises hs qs inst answer = subst (λ ts. Raises hs ts inst answer) (λ i. (parts i).0) r in
+    subst (λ ts. IfOk answer (λ x. x ≡ rule_of ts (implies hs d) th.base)) (map_twice (implies hs) (instance_of n) (premises th.prop)) (raised d th.base w made)
+
+-- a rule under assumptions is derived
+pub under_derived : (hs : List Tm) (n : Instance) (th : Theorem) → IsDerived th → th.hyps ≡ [] → ArePropositions hs → keeps n.types n.terms ≡ true → IsDerived (under_assumptions hs n th)
+under_derived hs n th d h w kept =
+    let qs : List Tm = map (instance_of n) (premises th.prop) in
+    let inst : Theorem = rule_of qs (instance_of n (conclusion th.prop)) th.base in
+    let sound : IsDerived inst = instantiated_sound n th inst (rule_instance n th h kept) d in
+    subst (λ ts. IsDerived (rule_of ts (implies hs (instance_of n (conclusion th.prop))) th.base)) (map_twice (implies hs) (instance_of n) (premises th.prop))
+    (raised_derived hs qs (instance_of n (conclusion th.prop)) th.base w sound)

@@ -17,7 +17,7 @@ use Rattle.isa_kernel.specs.Inferences.{has_type, keeps}
 use Rattle.isa_conversion.proofs.Functions.{bind_some, cond_some}
 use Rattle.isa_kernel.proofs.Parts.{app_made}
 use Rattle.isa_goal.specs.Matching.{is_ground, are_ground, is_first_order, matched_unknown, matched}
-use Rattle.isa_goal.proofs.Following.{empty_ty}
+use Rattle.isa_subgoal.proofs.Instancing.{empty_ty}
 
 -- what the first entries give, the second give too
 pub record Grows (fs gs : List TermEntry) : Type 0 where

@@ -1,23 +1,17 @@
 -- A refined state stands for the theorem that the inferences give.
-use Rattle.std.proofs.Common.{◌≡◌, ℕ, zero, suc, ◌-◌, ◌<◌, arith, append_assoc, List, [], ◌∷◌, ◌++◌, map, take, drop, nat_eq, Bool, true, false, cond, Option, Some, None, refl, sym, ap, ◌∙◌, subst}
+use Rattle.std.proofs.Common.{◌≡◌, ℕ, ◌-◌, List, [], ◌∷◌, ◌++◌, take, drop, nat_eq, Bool, true, false, cond, Option, Some, None, refl, sym, ap, ◌∙◌, subst}
 use Rattle.std.proofs.lemmas.List.{take-append-drop}
-use Rattle.std.specs.Prelude.{option_and_then, option_map, Err}
-use Rattle.isa_terms.specs.Terms.{Tm, bare}
+use Rattle.std.specs.Prelude.{option_and_then, option_map, Result, Ok, IfOk}
+use Rattle.std.specs.declared.alloc.AllocError.{AllocError}
+use Rattle.isa_terms.specs.Terms.{Tm}
 use Rattle.isa_terms.specs.Equal.{tm_eq}
-use Rattle.isa_kernel.specs.Axioms.{propositions, joined_bases}
-use Rattle.isa_kernel.specs.Logic.{imp}
-use Rattle.isa_kernel.specs.Forms.{imp_parts}
-use Rattle.isa_kernel.specs.Derivation.{Derives}
-use Rattle.isa_kernel.specs.Theorem.{Theorem, IsDerived}
-use Rattle.isa_kernel.specs.Inferences.{Answers}
-use Rattle.isa_kernel.specs.declared.inference.InferenceError.{InferenceError}
-use Rattle.isa_kernel.specs.declared.inference.InferenceError.TheVariants.{Shape, Memory}
-use Rattle.isa_conversion.proofs.Functions.{bind_some}
-use Rattle.isa_kernel.proofs.Parts.{imp_made}
-use Rattle.isa_goal.specs.Goals.{Goals, implies, IsStanding, theorem_of, Proves, premises_of, rule_form, head_split, around, refined, Gives}
-use Rattle.isa_goal.specs.Steps.{cut}
-use Rattle.isa_goal.proofs.Deriving.{ArePropositions, propositions_left, derived_propositions}
-use Rattle.isa_goal.proofs.Cutting.{cut_is}
+use Rattle.isa_kernel.specs.Axioms.{joined_bases}
+use Rattle.isa_kernel.specs.Theorem.{Theorem}
+use Rattle.isa_goal.specs.Goals.{Goals, IsStanding, theorem_of, Proves, head_split, around, refined}
+use Rattle.isa_subgoal.specs.Premises.{implies, rule_form, rule_of}
+use Rattle.isa_subgoal.specs.Rules.{Cuts}
+use Rattle.isa_subgoal.proofs.Deriving.{ArePropositions, derived_propositions}
+use Rattle.isa_subgoal.proofs.Splitting.{Form, rule_made}
 
 cond_none : {A : Type 0} (b : Bool) (o : Option A) {y : A} → cond b None o ≡ Some y → (b ≡ false) × (o ≡ Some y)
 cond_none true o e = cc
@@ -31,93 +25,36 @@ around_made i ts at e = go (drop (i - 1) ts) (take-append-drop (i - 1) ts) (cond
     go [] h k = cc
     go (x ∷ xs) h k = let q : (take (i - 1) ts, x, xs) ≡ at = cc in sym h ∙ (λ j. (q j).0 ++ ((q j).1 ∷ (q j).2))
 
-pub premises_made : (n : ℕ) (p : Tm) (at : List Tm × Tm) → premises_of n p ≡ Some at → p ≡ implies at.0 at.1
-premises_made zero p at e = let q : ([], p) ≡ at = cc (e) in λ j. implies ((q j).0) ((q j).1)
-premises_made (suc n) p at e =
-    let b = bind_some (imp_parts p) _ e in
-    let r = bind_some (premises_of n b.0.1) _ b.2 in
-    let q : (b.0.0 ∷ r.0.0, r.0.1) ≡ at = cc (r.2) in
-    imp_made p b.0 b.1 ∙ ap (imp b.0.0) (premises_made n b.0.1 r.0 r.1) ∙ (λ j. implies ((q j).0) ((q j).1))
-
-pub rule_made : (n : ℕ) (th : Theorem) (at : List Tm × Tm) → rule_form n th ≡ Some at → th ≡ record { hyps = []; prop = implies at.0 at.1; base = th.base }
-rule_made n th at e = go th.hyps refl e
-  where
-    go : (H : List Tm) → th.hyps ≡ H → elim H [ [] ↦ premises_of n th.prop | h ∷ hs ↦ None ] ≡ Some at → th ≡ record { hyps = []; prop = implies at.0 at.1; base = th.base }
-    go [] h k = let m = premises_made n th.prop at k in λ j. record { hyps = h j; prop = m j; base = th.base }
-    go (x ∷ xs) h k = cc
-
 pub standing_propositions : (s : Goals) → IsStanding s → ArePropositions s.subgoals
 standing_propositions s d = (derived_propositions s.subgoals s.goal d.derivation).0
-
-pub rule_propositions : (n : ℕ) (th : Theorem) (at : List Tm × Tm) → rule_form n th ≡ Some at → IsDerived th → ArePropositions at.0
-rule_propositions n th at e d =
-    let q = rule_made n th at e in
-    (derived_propositions at.0 at.1 (subst (λ (x : Theorem). Derives (propositions th.base) (map bare th.hyps) (bare x.prop)) q d.derivation)).0
 
 -- the state with a theorem's premises in the place of a subgoal
 abbrev pub placed : Goals → Theorem → (List Tm × Tm × List Tm) → List Tm → Goals
 placed s th at bs = record { subgoals = at.0 ++ (bs ++ at.2); goal = s.goal; base = joined_bases s.base th.base }
 
-pub refined_cut : (i n : ℕ) (s : Goals) (th : Theorem) (at : List Tm × Tm × List Tm) (parts : List Tm × Tm) → around i s.subgoals ≡ Some at → rule_form n th ≡ Some parts → tm_eq at.1 parts.1 ≡ true → IsStanding s → IsDerived th →
-    cut at.0 parts.0 (theorem_of s) th ≡ Some (theorem_of (placed s th at parts.0))
-refined_cut i n s th at parts a r e d f =
-    let here = around_made i s.subgoals at a in
-    let all : ArePropositions (at.0 ++ (at.1 ∷ at.2)) = subst (λ ts. ArePropositions ts) here (standing_propositions s d) in
-    let us : ArePropositions at.0 = propositions_left at.0 (at.1 ∷ at.2) all in
-    let bs : ArePropositions parts.0 = rule_propositions n th parts r f in
-    (λ j. cut at.0 parts.0 (record { hyps = []; prop = implies (here j) s.goal; base = s.base }) (rule_made n th parts r j))
-    ∙ cut_is at.0 parts.0 at.2 s.base th.base at.1 parts.1 s.goal us bs e
-
-abbrev pub Form : Type 0
-Form = List Tm × Tm
-
--- a premise in front of a rule's, and premises before them
-abbrev pub with_first : Tm → Form → Form
-with_first p r = (p ∷ r.0, r.1)
-
-abbrev pub with_before : List Tm → Form → Form
-with_before d r = (d ++ r.0, r.1)
-
-pub premises_step : (n : ℕ) (t p q : Tm) → 0 < n → imp_parts t ≡ Some (p, q) → premises_of n t ≡ option_map {T = Form} {U = Form} (with_first p) (premises_of (n - 1) q)
-premises_step zero t p q l e = absurd (omega (arith, l))
-premises_step (suc n) t p q l e = let m : n ≡ suc n - 1 = omega arith in ap (λ o. option_and_then {T = Tm × Tm} {U = Form} (λ parts. option_and_then {T = Form} {U = Form} (λ rest. Some (parts.0 ∷ rest.0, rest.1)) (premises_of n parts.1)) o) e ∙ go (premises_of n q) ∙ ap (λ k. option_map {T = Form} {U = Form} (with_first p) (premises_of k q)) m
-  where
-    go : (o : Option Form) → option_and_then {T = Form} {U = Form} (λ rest. Some (p ∷ rest.0, rest.1)) o ≡ option_map {T = Form} {U = Form} (with_first p) o
-    go None = refl
-    go (Some r) = refl
-
-behind_done : (o : Option Form) (d : List Tm) (p : Tm) → option_map {T = Form} {U = Form} (with_before (d ++ p ∷ [])) o ≡ option_map {T = Form} {U = Form} (with_before d) (option_map {T = Form} {U = Form} (with_first p) o)
-behind_done None d p = refl
-behind_done (Some r) d p = let q : (d ++ p ∷ []) ++ r.0 ≡ d ++ (p ∷ r.0) = append_assoc d (p ∷ []) r.0 in λ i. Some (q i, r.1)
-
--- a premise behind those that are done
-pub premises_more : (n : ℕ) (t p q : Tm) (d e : List Tm) → 0 < n → imp_parts t ≡ Some (p, q) → e ≡ d ++ p ∷ [] → option_map {T = Form} {U = Form} (λ r. (e ++ r.0, r.1)) (premises_of (n - 1) q) ≡ option_map {T = Form} {U = Form} (λ r. (d ++ r.0, r.1)) (premises_of n t)
-premises_more n t p q d e l i h =
-    ap (λ ts. option_map {T = Form} {U = Form} (with_before ts) (premises_of (n - 1) q)) h
-    ∙ behind_done (premises_of (n - 1) q) d p
-    ∙ ap (λ o. option_map {T = Form} {U = Form} (with_before d) o) (sym (premises_step n t p q l i))
-
 -- ---- the state that the inferences give
-pub refined_is : (i n : ℕ) (s : Goals) (th thm : Theorem) (us vs bs : List Tm) (w r : Tm) → around i s.subgoals ≡ Some (us, w, vs) → rule_form n th ≡ Some (bs, r) → tm_eq w r ≡ true → IsStanding s → IsDerived th → Proves thm s →
-    (cut us bs thm th ≡ Some (theorem_of (placed s th (us, w, vs) bs))) × (refined i th n s ≡ Some (placed s th (us, w, vs) bs))
-refined_is i n s th thm us vs bs w r a f e d g p = (
-  ap (λ x. cut us bs x th) p.same ∙ refined_cut i n s th (us, w, vs) (bs, r) a f e d g,
-  ap (λ o. option_and_then {T = List Tm × Tm × List Tm} {U = Goals} (λ at. option_and_then {T = Form} {U = Goals} (λ parts. cond (tm_eq at.1 parts.1) (Some (placed s th at parts.0)) None) (rule_form n th)) o) a
-      ∙ ap (λ o. option_and_then {T = Form} {U = Goals} (λ parts. cond (tm_eq w parts.1) (Some (placed s th (us, w, vs) parts.0)) None) o) f
-      ∙ ap (λ b. cond b (Some (placed s th (us, w, vs) bs)) None) e,
-)
+-- the theorem with the rule's premises in the place of the subgoal
+refined_theorem : (i n : ℕ) (s : Goals) (th thm x : Theorem) (us vs bs : List Tm) (w r : Tm) (answer : Result Theorem AllocError) → around i s.subgoals ≡ Some (us, w, vs) → rule_form n th ≡ Some (bs, r) → tm_eq w r ≡ true → Proves thm s → Cuts us bs thm th answer → answer ≡ Ok x → x ≡ theorem_of (placed s th (us, w, vs) bs)
+refined_theorem i n s th thm x us vs bs w r answer a f e p k q =
+    let here : s.subgoals ≡ us ++ (w ∷ vs) = around_made i s.subgoals (us, w, vs) a in
+    subst (λ o. IfOk o (λ y. y ≡ theorem_of (placed s th (us, w, vs) bs))) q
+    (k w r s.goal vs s.base th.base (p.same ∙ (λ j. rule_of (here j) s.goal s.base)) (rule_made n th (bs, r) f) e)
 
-pub refined_err : (e : InferenceError) (o : Option Theorem) (x : Theorem) (w : Option Goals) → Answers (Err e) o → o ≡ Some x → Gives (Err e) w
-refined_err Shape o x w a k = cc
-refined_err Memory o x w a k = tt
+refined_state : (i n : ℕ) (s : Goals) (th : Theorem) (us vs bs : List Tm) (w r : Tm) → around i s.subgoals ≡ Some (us, w, vs) → rule_form n th ≡ Some (bs, r) → tm_eq w r ≡ true → refined i th n s ≡ Some (placed s th (us, w, vs) bs)
+refined_state i n s th us vs bs w r a f e =
+    ap (λ o. option_and_then {T = List Tm × Tm × List Tm} {U = Goals} (λ at. option_and_then {T = Form} {U = Goals} (λ parts. cond (tm_eq at.1 parts.1) (Some (placed s th at parts.0)) None) (rule_form n th)) o) a
+    ∙ ap (λ o. option_and_then {T = Form} {U = Goals} (λ parts. cond (tm_eq w parts.1) (Some (placed s th (us, w, vs) parts.0)) None) o) f
+    ∙ ap (λ b. cond b (Some (placed s th (us, w, vs) bs)) None) e
 
--- the answer's theorem, subgoals and goal make a state
-pub refined_proves : (x : Theorem) (p : Goals) (o : Option Theorem) (ss : List Tm) (g : Tm) → o ≡ Some (theorem_of p) → o ≡ Some x → ss ≡ p.subgoals → g ≡ p.goal → Proves x (record { subgoals = ss; goal = g; base = x.base })
-refined_proves x p o ss g f e s h =
-    let q : x ≡ theorem_of p = cc (e, f) in
-    record { same = λ i. record { hyps = (q i).hyps; prop = (ap (λ (t : Theorem). t.prop) q ∙ (λ j. implies (sym s j) (sym h j))) i; base = x.base } }
+-- the answer's theorem, subgoals and goal make a state, which is the refined one
+pub refined_proves : (i n : ℕ) (s : Goals) (th thm x : Theorem) (us vs bs : List Tm) (w r : Tm) (answer : Result Theorem AllocError) (ss : List Tm) (g : Tm) → around i s.subgoals ≡ Some (us, w, vs) → rule_form n th ≡ Some (bs, r) → tm_eq w r ≡ true → Proves thm s → Cuts us bs thm th answer → answer ≡ Ok x → ss ≡ us ++ (bs ++ vs) → g ≡ s.goal →
+    Proves x (record { subgoals = ss; goal = g; base = x.base })
+refined_proves i n s th thm x us vs bs w r answer ss g a f e p k o l h =
+    let q : x ≡ theorem_of (placed s th (us, w, vs) bs) = refined_theorem i n s th thm x us vs bs w r answer a f e p k o in
+    record { same = λ j. record { hyps = (q j).hyps; prop = (ap (λ (t : Theorem). t.prop) q ∙ (λ m. implies (sym l m) (sym h m))) j; base = x.base } }
 
-pub refined_gives : (x : Theorem) (p : Goals) (o : Option Theorem) (w : Option Goals) (ss : List Tm) (g : Tm) → o ≡ Some (theorem_of p) → w ≡ Some p → o ≡ Some x → ss ≡ p.subgoals → g ≡ p.goal → w ≡ Some (record { subgoals = ss; goal = g; base = x.base })
-refined_gives x p o w ss g f k e s h =
-    let q : x ≡ theorem_of p = cc (e, f) in
-    k ∙ (λ i. Some (record { subgoals = sym s i; goal = sym h i; base = (sym q i).base }))
+pub refined_gives : (i n : ℕ) (s : Goals) (th thm x : Theorem) (us vs bs : List Tm) (w r : Tm) (answer : Result Theorem AllocError) (ss : List Tm) (g : Tm) → around i s.subgoals ≡ Some (us, w, vs) → rule_form n th ≡ Some (bs, r) → tm_eq w r ≡ true → Proves thm s → Cuts us bs thm th answer → answer ≡ Ok x → ss ≡ us ++ (bs ++ vs) → g ≡ s.goal →
+    refined i th n s ≡ Some (record { subgoals = ss; goal = g; base = x.base })
+refined_gives i n s th thm x us vs bs w r answer ss g a f e p k o l h =
+    let q : x ≡ theorem_of (placed s th (us, w, vs) bs) = refined_theorem i n s th thm x us vs bs w r answer a f e p k o in
+    refined_state i n s th us vs bs w r a f e ∙ (λ j. Some (record { subgoals = sym l j; goal = sym h j; base = (sym q j).base }))

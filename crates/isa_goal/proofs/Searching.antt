@@ -5,44 +5,46 @@ use Rattle.std.proofs.lemmas.List.{drop_more}
 use Rattle.isa_terms.specs.Terms.{Tm}
 use Rattle.isa_terms.specs.Instance.{Instance}
 use Rattle.isa_terms.specs.declared.inst.TermEntry.{TermEntry}
+use Rattle.isa_conversion.specs.Instances.{Each}
+use Rattle.isa_kernel.specs.Logic.{IsProposition}
+use Rattle.isa_kernel.specs.Inferences.{keeps}
 use Rattle.isa_kernel.specs.Axioms.{propositions}
 use Rattle.isa_kernel.specs.Derivation.{Member, Within}
-use Rattle.isa_kernel.specs.Theorem.{Theorem, IsDerived}
+use Rattle.isa_kernel.specs.Theorem.{Theorem}
 use Rattle.isa_kernel.proofs.Members.{bases_left, bases_right}
-use Rattle.isa_goal.specs.Goals.{Goals, premises, conclusion, IsStanding, around, refined}
+use Rattle.isa_goal.specs.Goals.{Goals, IsStanding, around, refined}
+use Rattle.isa_subgoal.specs.Premises.{premises, conclusion}
 use Rattle.isa_goal.specs.Names.{canon}
 use Rattle.isa_goal.specs.Follows.{Follows}
 use Rattle.isa_goal.specs.Matching.{matched, is_first_order}
-use Rattle.isa_goal.specs.Resolving.{matching, lifted, lifted_by, resolved, attempt, with_first, results, base_of, FollowsIfFound, Search, left, Steps}
+use Rattle.isa_goal.specs.Resolving.{matching, under_assumptions, resolved, attempt, with_first, results, base_of, FollowsIfFound, Search, left, Steps}
 use Rattle.isa_goal.specs.declared.found.Found.{Found}
 use Rattle.isa_goal.specs.declared.found.Found.TheVariants.{Outside, Res}
-use Rattle.isa_goal.proofs.Deriving.{derive_more}
-use Rattle.isa_goal.proofs.Following.{each_of, of_each}
-use Rattle.isa_goal.proofs.Lifting.{lifted_is, matching_keeps}
+use Rattle.isa_subgoal.proofs.Deriving.{derive_more}
+use Rattle.isa_subgoal.proofs.Consequences.{each_of, of_each}
+use Rattle.isa_goal.proofs.Lifting.{aim_propositions, matching_keeps}
 
 -- ---- one rule
--- the inferences give the lifted rule, and this refines the state
-pub resolve_is : (i : ℕ) (s : Goals) (th : Theorem) (us vs : List Tm) (w : Tm) (ps : List Tm) (c : Tm) (hs : List Tm) (d : Tm) (fs : List TermEntry) (n : Instance) → IsStanding s → IsDerived th → th.hyps ≡ [] → is_first_order c ≡ true →
-    ps ≡ premises th.prop → c ≡ conclusion th.prop → around i s.subgoals ≡ Some (us, w, vs) → hs ≡ premises w → d ≡ conclusion w → matched c d [] ≡ Some fs → n ≡ matching fs th →
-    (lifted_by hs (length ps) n th ≡ Some (lifted (premises w) (matching fs th) th)) ×
-    (resolved i th s ≡ option_map canon (refined i (lifted (premises w) (matching fs th) th) (length ps) s))
-resolve_is i s th us vs w ps c hs d fs n st der h o p q a r e m x =
-    let k : matched (conclusion th.prop) (conclusion w) [] ≡ Some fs = (λ j. matched (sym q j) (sym e j) []) ∙ m in
-    let first : is_first_order (conclusion th.prop) ≡ true = ap is_first_order (sym q) ∙ o in (
-      (λ j. lifted_by (r j) (length (p j)) (x j) th) ∙ lifted_is i s th (us, w, vs) (matching fs th) st der h a (matching_keeps fs th (conclusion w) first k),
-      ap (λ y. option_and_then {T = List Tm × Tm × List Tm} {U = Goals} (λ at. option_and_then {T = List TermEntry} {U = Goals} (λ gs. option_map canon (refined i (lifted (premises at.1) (matching gs th) th) (length (premises th.prop)) s)) (matched (conclusion th.prop) (conclusion at.1) [])) y) a
-          ∙ ap (λ y. option_and_then {T = List TermEntry} {U = Goals} (λ gs. option_map canon (refined i (lifted (premises w) (matching gs th) th) (length (premises th.prop)) s)) y) k
-          ∙ ap (λ ts. option_map canon (refined i (lifted (premises w) (matching fs th) th) (length ts) s)) (sym p),
+-- the rule under the subgoal's assumptions refines the state
+pub resolve_is : (i k : ℕ) (s : Goals) (th x : Theorem) (us vs : List Tm) (w : Tm) (ps : List Tm) (c : Tm) (hs : List Tm) (d : Tm) (fs : List TermEntry) (n : Instance) →
+    ps ≡ premises th.prop → c ≡ conclusion th.prop → around i s.subgoals ≡ Some (us, w, vs) → hs ≡ premises w → d ≡ conclusion w → matched c d [] ≡ Some fs → n ≡ matching fs th → k ≡ length ps → x ≡ under_assumptions hs n th →
+    option_map canon (refined i x k s) ≡ resolved i th s
+resolve_is i k s th x us vs w ps c hs d fs n p q a r e m z l y =
+    let found : matched (conclusion th.prop) (conclusion w) [] ≡ Some fs = (λ j. matched (sym q j) (sym e j) []) ∙ m in
+    let raised : Theorem = under_assumptions (premises w) (matching fs th) th in
+    let whole : resolved i th s ≡ option_map canon (refined i raised (length (premises th.prop)) s) =
+    ap (λ o. option_and_then {T = List Tm × Tm × List Tm} {U = Goals} (λ at. option_and_then {T = List TermEntry} {U = Goals} (λ gs. option_map canon (refined i (under_assumptions (premises at.1) (matching gs th) th) (length (premises th.prop)) s)) (matched (conclusion th.prop) (conclusion at.1) [])) o) a
+    ∙ ap (λ o. option_and_then {T = List TermEntry} {U = Goals} (λ gs. option_map canon (refined i (under_assumptions (premises w) (matching gs th) th) (length (premises th.prop)) s)) o) found in
+    (λ j. option_map canon (refined i ((y ∙ (λ v. under_assumptions (r v) (z v) th)) j) ((l ∙ ap length p) j) s)) ∙ sym whole
+
+-- what the call on the rule asks for
+pub resolve_asks : (i : ℕ) (s : Goals) (th : Theorem) (us vs : List Tm) (w c d : Tm) (hs : List Tm) (fs : List TermEntry) (n : Instance) → IsStanding s → is_first_order c ≡ true → c ≡ conclusion th.prop → around i s.subgoals ≡ Some (us, w, vs) → hs ≡ premises w → matched c d [] ≡ Some fs → n ≡ matching fs th →
+    Each IsProposition hs × (keeps n.types n.terms ≡ true)
+resolve_asks i s th us vs w c d hs fs n st o q a r m z =
+    let found : matched (conclusion th.prop) d [] ≡ Some fs = (λ j. matched (sym q j) d []) ∙ m in (
+      subst (λ ts. Each IsProposition ts) (sym r) (aim_propositions i s (us, w, vs) st a),
+      subst (λ (x : Instance). keeps x.types x.terms ≡ true) (sym z) (matching_keeps fs th d (ap is_first_order (sym q) ∙ o) found),
     )
-
-pub resolve_never : (L : Theorem) (o : Option Theorem) → o ≡ Some L → None ≡ o → ⊥
-resolve_never L o e f = cc
-
-pub resolve_some : (i n : ℕ) (s : Goals) (th x L : Theorem) (ps : List Tm) (o : Option Theorem) → (o ≡ Some L) × (resolved i th s ≡ option_map canon (refined i L (length ps) s)) → Some x ≡ o → n ≡ length ps →
-    (option_map canon (refined i x n s) ≡ resolved i th s) × (x ≡ L)
-resolve_some i n s th x L ps o k e l =
-    let q : x ≡ L = cc (k.0, e) in
-    ((λ j. option_map canon (refined i (q j) (l j) s)) ∙ sym k.1, q)
 
 -- ---- following under more axioms
 pub follows_more : (ax bx : List Tm) (s t : Goals) → Within ax bx → Follows ax s t → Follows bx s t

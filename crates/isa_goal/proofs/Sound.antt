@@ -1,50 +1,23 @@
 -- What the rules give follows.
 use Rattle.std.specs.Prelude.{option_and_then, option_map}
-use Rattle.std.proofs.Common.{◌≡◌, ℕ, List, [], ◌∷◌, map, length, Bool, true, false, cond, Option, Some, None, refl, subst}
+use Rattle.std.proofs.Common.{◌≡◌, ℕ, List, [], ◌∷◌, length, Bool, true, false, cond, Option, Some, None, refl, subst}
 use Rattle.isa_terms.specs.Terms.{Tm}
 use Rattle.isa_terms.specs.Instance.{Instance}
 use Rattle.isa_kernel.specs.Axioms.{propositions}
 use Rattle.isa_kernel.specs.Theorem.{Theorem, IsDerived, AreDerived}
-use Rattle.isa_kernel.specs.Inferences.{assumed, implies_eliminated, instantiated}
-use Rattle.isa_kernel.proofs.Sound.{assumed_sound, implies_eliminated_sound}
-use Rattle.isa_kernel.proofs.Instances.{instantiated_sound}
 use Rattle.isa_kernel.proofs.Members.{bases_left, bases_right}
 use Rattle.isa_conversion.proofs.Functions.{bind_some}
-use Rattle.isa_goal.specs.Goals.{Goals, implies, premises, conclusion, rule_form, IsStanding, around, refined}
-use Rattle.isa_goal.specs.Steps.{eliminated, introduced, met_under, raised, raised_rule}
+use Rattle.isa_goal.specs.Goals.{Goals, IsStanding, around, refined}
+use Rattle.isa_subgoal.specs.Premises.{premises, conclusion}
 use Rattle.isa_goal.specs.Names.{canon}
 use Rattle.isa_goal.specs.Follows.{Advances}
 use Rattle.isa_goal.specs.Matching.{is_first_order, matched}
-use Rattle.isa_goal.specs.Resolving.{matching, lifted, lifted_by, resolved, is_large, limited, attempt, with_first, results, base_of, FollowsIfFound, AllFollow}
+use Rattle.isa_goal.specs.Resolving.{matching, under_assumptions, resolved, is_large, limited, attempt, with_first, results, base_of, FollowsIfFound, AllFollow}
 use Rattle.isa_goal.specs.declared.found.Found.{Found}
 use Rattle.isa_goal.specs.declared.found.Found.TheVariants.{Outside, Res}
-use Rattle.isa_goal.proofs.Cutting.{eliminated_sound, introduced_sound}
 use Rattle.isa_goal.proofs.Numbers.{refined_advances}
-use Rattle.isa_goal.proofs.Lifting.{lifted_is, matching_keeps}
+use Rattle.isa_goal.proofs.Lifting.{aim_propositions, matching_keeps, under_derived}
 use Rattle.isa_goal.proofs.Searching.{found_more}
-
-met_sound : (hs ps : List Tm) (th x : Theorem) → met_under hs ps th ≡ Some x → IsDerived th → IsDerived x
-unfolding met_under
-met_sound hs [] th x e d = subst (λ y. IsDerived y) (cc (e)) d
-met_sound hs (p ∷ ps) th x e d =
-    let a = bind_some (assumed (implies hs p)) _ e in
-    let b = bind_some (eliminated hs a.0) _ a.2 in
-    let n = bind_some (implies_eliminated th b.0) _ b.2 in
-    met_sound hs ps n.0 x n.2 (implies_eliminated_sound th b.0 n.0 n.1 d (eliminated_sound hs a.0 b.0 b.1 (assumed_sound (implies hs p) a.0 a.1)))
-
-raised_sound : (hs ps : List Tm) (th x : Theorem) → raised hs ps th ≡ Some x → IsDerived th → IsDerived x
-unfolding raised
-raised_sound hs ps th x e d =
-    let c = bind_some (met_under hs ps th) _ e in
-    let i = bind_some (introduced hs c.0) _ c.2 in
-    introduced_sound (map (implies hs) ps) i.0 x i.2 (introduced_sound hs c.0 i.0 i.1 (met_sound hs ps th c.0 c.1 d))
-
-pub lifted_sound : (hs : List Tm) (c : ℕ) (n : Instance) (th x : Theorem) → lifted_by hs c n th ≡ Some x → IsDerived th → IsDerived x
-unfolding raised_rule
-lifted_sound hs c n th x e d =
-    let i = bind_some (instantiated n th) _ e in
-    let r = bind_some (rule_form c i.0) _ i.2 in
-    raised_sound hs r.0.0 i.0 x r.2 (instantiated_sound n th i.0 i.1 d)
 
 some_of_map : (f : Goals → Goals) (o : Option Goals) (t : Goals) → option_map f o ≡ Some t → (p : Goals) × (o ≡ Some p) × (f p ≡ t)
 some_of_map f None t e = absurd (cc)
@@ -55,9 +28,8 @@ resolved_follows i th s t h o e d f =
     let a = bind_some (around i s.subgoals) _ e in
     let m = bind_some (matched (conclusion th.prop) (conclusion a.0.1) []) _ a.2 in
     let n : Instance = matching m.0 th in
-    let rule : Theorem = lifted (premises a.0.1) n th in
-    let made = lifted_is i s th a.0 n d f h a.1 (matching_keeps m.0 th (conclusion a.0.1) o m.1) in
-    let sound : IsDerived rule = lifted_sound (premises a.0.1) (length (premises th.prop)) n th rule made f in
+    let rule : Theorem = under_assumptions (premises a.0.1) n th in
+    let sound : IsDerived rule = under_derived (premises a.0.1) n th f h (aim_propositions i s a.0 d a.1) (matching_keeps m.0 th (conclusion a.0.1) o m.1) in
     let r = some_of_map canon (refined i rule (length (premises th.prop)) s) t m.2 in
     subst (λ x. Advances (propositions th.base) s x) r.2 (refined_advances i (length (premises th.prop)) rule s r.0 r.1 d sound)
 

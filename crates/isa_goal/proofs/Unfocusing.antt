@@ -9,16 +9,19 @@ use Rattle.isa_kernel.specs.Forms.{imp_parts}
 use Rattle.isa_kernel.specs.Derivation.{Member, Within}
 use Rattle.isa_kernel.proofs.Members.{bares}
 use Rattle.isa_conversion.proofs.Functions.{bind_some}
-use Rattle.isa_goal.specs.Goals.{Goals, implies, IsStanding, around}
-use Rattle.isa_goal.specs.Follows.{Each, Follows, Reduces}
+use Rattle.isa_goal.specs.Goals.{Goals, IsStanding, around}
+use Rattle.isa_conversion.specs.Instances.{Each}
+use Rattle.isa_subgoal.specs.Premises.{implies, leading}
+use Rattle.isa_goal.specs.Follows.{Follows, Reduces}
 use Rattle.isa_goal.specs.Names.{canon}
-use Rattle.isa_goal.specs.Focus.{focused, leading, put_back, unfocused}
-use Rattle.isa_goal.proofs.Deriving.{ArePropositions, implies_proposition, derived_propositions, propositions_append, propositions_left, propositions_right, propositions_bare, propositions_member, derive_assume}
+use Rattle.isa_goal.specs.Focus.{focused, put_back, unfocused}
+use Rattle.isa_subgoal.proofs.Deriving.{ArePropositions, implies_proposition, derived_propositions, propositions_append, propositions_left, propositions_right, propositions_bare, propositions_member, derive_assume}
 use Rattle.isa_goal.proofs.Refining.{around_made, standing_propositions}
-use Rattle.isa_goal.proofs.Following.{From, from_all, each_of, of_each, under, bare_member, instance_implies}
+use Rattle.isa_subgoal.proofs.Consequences.{From, from_all, each_of, of_each, under, bare_member}
+use Rattle.isa_subgoal.proofs.Instancing.{instance_implies}
 use Rattle.isa_goal.proofs.Numbers.{canon_follows}
 use Rattle.isa_goal.proofs.Chaining.{follows_chain, canon_propositions}
-use Rattle.isa_goal.proofs.Rotating.{leading_propositions}
+use Rattle.isa_goal.proofs.Focusing.{leading_propositions}
 
 -- ---- the premises of a proposition that is equal to `P ==> Q`
 constant_of : (c : Tm) (x : List ℕ) (T : Ty) → bare c ≡ Const x T → c ≡ Const x T

@@ -15,11 +15,11 @@ use Rattle.isa_kernel.specs.Logic.{prop, imp}
 use Rattle.isa_kernel.specs.Forms.{const_type, predicate_of, imp_parts, quantifier_parts}
 use Rattle.isa_kernel.proofs.Parts.{imp_made}
 use Rattle.isa_conversion.proofs.Normal.{norm_same}
-use Rattle.isa_goal.specs.Goals.{conclusion}
+use Rattle.isa_subgoal.specs.Premises.{conclusion}
 use Rattle.isa_goal.specs.Matching.{is_ground, are_ground}
-use Rattle.isa_goal.specs.Shape.{is_quantified, is_in_form}
+use Rattle.isa_subgoal.specs.Shape.{is_quantified, is_in_form}
 use Rattle.isa_goal.proofs.Matches.{ground_same}
-use Rattle.isa_goal.proofs.Spelling.{implication}
+use Rattle.isa_subgoal.proofs.Spelling.{implication}
 
 abbrev pub IsTypeUnknown : Ty → Type 0
 IsTypeUnknown (TyUnknown x i) = Unit {0}

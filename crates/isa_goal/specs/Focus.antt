@@ -1,8 +1,9 @@
 -- A subgoal alone, and what comes of it put back.
-use Rattle.std.specs.Prelude.{ℕ, zero, suc, ◌-◌, List, [], ◌∷◌, ◌++◌, take, drop, length, Option, Some, None, ◌≡◌}
+use Rattle.std.specs.Prelude.{ℕ, ◌-◌, List, [], ◌∷◌, ◌++◌, take, drop, length, Option, Some, ◌≡◌}
 use Rattle.isa_terms.specs.Terms.{Tm}
-use Rattle.isa_kernel.specs.Forms.{◌>>=◌, imp_parts}
-use Rattle.isa_goal.specs.Goals.{Goals, implies, around, IsStanding}
+use Rattle.isa_kernel.specs.Forms.{◌>>=◌}
+use Rattle.isa_goal.specs.Goals.{Goals, around, IsStanding}
+use Rattle.isa_subgoal.specs.Premises.{implies, leading}
 use Rattle.isa_goal.specs.Names.{canon}
 use Rattle.isa_goal.specs.Follows.{Follows}
 
@@ -11,11 +12,6 @@ abbrev pub focused : ℕ → Goals → Option Goals
 focused i s = do
   at ← around i s.subgoals
   Some (record { subgoals = at.1 ∷ []; goal = implies (at.0 ++ at.2) s.goal; base = s.base })
-
--- the first n premises of a proposition, or all where there are fewer, and what is behind them
-abbrev pub leading : ℕ → Tm → List Tm × Tm
-leading zero g = ([], g)
-leading (suc n) g = elim (imp_parts g) [ None ↦ ([], g) | Some p ↦ (p.0 ∷ (leading n p.1).0, (leading n p.1).1) ]
 
 -- so many premises taken out of the goal, or all where there are fewer, and the subgoals behind the first of them
 abbrev pub put_back : ℕ → ℕ → Goals → Goals

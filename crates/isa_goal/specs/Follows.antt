@@ -1,5 +1,5 @@
 -- How a state follows from another.
-use Rattle.std.specs.Prelude.{◌≡◌, ℕ, List, [], ◌∷◌, ◌++◌, map, true, Some, Result, Ok, Err}
+use Rattle.std.specs.Prelude.{◌≡◌, ℕ, List, [], ◌++◌, map, true, Some, Result, Ok, Err}
 use Rattle.isa_terms.specs.Terms.{Tm, bare}
 use Rattle.isa_terms.specs.Instance.{Instance, instance_of}
 use Rattle.isa_terms.specs.Normal.{IsNormal}
@@ -8,12 +8,9 @@ use Rattle.isa_kernel.specs.Derivation.{Within, Derives}
 use Rattle.isa_kernel.specs.Theorem.{Theorem, IsDerived}
 use Rattle.isa_kernel.specs.Inferences.{keeps}
 use Rattle.isa_kernel.specs.declared.inference.InferenceError.{InferenceError}
-use Rattle.isa_goal.specs.Goals.{Goals, implies, IsStanding, refined}
-
--- it holds of each of the terms
-abbrev pub Each : (Tm → Type 0) → List Tm → Type 0
-Each P [] = Unit {0}
-Each P (t ∷ ts) = P t × Each P ts
+use Rattle.isa_goal.specs.Goals.{Goals, IsStanding, refined}
+use Rattle.isa_conversion.specs.Instances.{Each}
+use Rattle.isa_subgoal.specs.Premises.{implies}
 
 -- by the axioms `ax`: the goal of t is an instance of that of s, and each subgoal of s, so instantiated, follows from those of t
 pub record Follows (ax : List Tm) (s t : Goals) : Type 0 where

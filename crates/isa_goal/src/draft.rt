@@ -1,19 +1,19 @@
-ghost use Rattle.std.specs.Prelude.{◌≡◌, take, drop, true, Some, Ok, IfOk};
+ghost use Rattle.std.specs.Prelude.{◌≡◌, take, drop, true, Some, IfOk};
 ghost use Rattle.isa_kernel.specs.Inferences.{keeps};
 ghost use Rattle.isa_goal.specs.Follows.{instanced, IsNormalState};
-ghost use Rattle.isa_goal.specs.Shape.{reshaped};
+ghost use Rattle.isa_goal.specs.Names.{reshaped, canon, naming};
 ghost use Rattle.isa_goal.specs.Focus.{focused, put_back};
-ghost use Rattle.isa_goal.specs.Names.{canon, naming};
 ghost use Rattle.isa_goal.specs.Goals.{Goals, IsStanding, has_parameter, theorem_of, Proves, Gives, Finishes, started, refined};
 
 use crate::naming::{
     add_all_type_unknowns, add_all_unknowns, add_type_unknowns, add_unknowns, name_type_unknowns,
     name_unknowns,
 };
-use crate::premises::{around, is_all, split_leading, split_rule};
-use crate::reshaping::reshape;
-use crate::steps::{cut, make_implies, rotate, spliced};
+use crate::places::around;
 use isa_kernel::{InferenceError, Thm, assume, implies_intr, instantiate_thm};
+use isa_subgoal::{
+    cut, granted, is_all, make_implies, reshape, rotate, spliced, split_leading, split_rule,
+};
 use isa_terms::{Inst, Term, Terms, Typs, copied, same_term};
 use std::alloc::{AllocError, Global};
 use std::marker::Model;
@@ -115,8 +115,6 @@ impl Draft {
     ) -> Result<Draft, InferenceError>
         ensures { Gives result (refined place th.now count self.now) }
     {
-        self.is_standing();
-        th.is_derived();
         let Some((before, wanted, behind)) = around(self.subgoals.as_slice(), place) else {
             return Err(InferenceError::Shape);
         };
@@ -139,13 +137,12 @@ impl Draft {
     pub(crate) fn alone_at(&self, alloc: Global, i: usize) -> Result<Draft, AllocError>
         ensures { IfOk result (λ t. focused i self.now ≡ Some t) }
     {
-        self.is_standing();
         let Some((before, subgoal, behind)) = around(self.subgoals.as_slice(), i) else {
             return Err(AllocError);
         };
         let mut subgoals = Terms::new(alloc);
         subgoals.push(subgoal.copy()?)?;
-        let thm = granted(rotate(alloc, before, subgoals.as_slice(), &self.thm))?;
+        let thm = rotate(alloc, before, subgoals.as_slice(), &self.thm)?;
         let others = make_implies(alloc, behind, &self.goal)?;
         let goal = make_implies(alloc, before, &others)?;
         Ok(Draft {
@@ -164,11 +161,10 @@ impl Draft {
     ) -> Result<Draft, AllocError>
         ensures { IfOk result (λ t. t ≡ put_back others front self.now) }
     {
-        self.is_standing();
         let taken = split_leading(others, &self.goal, Terms::new(alloc))?;
         let (before, behind) = split_at_most(taken.premises.as_slice(), front);
         let subgoals = self.subgoals.as_slice();
-        let thm = granted(rotate(alloc, subgoals, before, &self.thm))?;
+        let thm = rotate(alloc, subgoals, before, &self.thm)?;
         let all = spliced(alloc, before, subgoals, behind)?;
         Ok(Draft {
             thm,
@@ -210,10 +206,7 @@ impl Draft {
         requires { IsNormalState self.now }
         ensures { IfOk result (λ t. t ≡ reshaped self.now) }
     {
-        self.is_standing();
-        let subgoals = self.subgoals.as_slice();
-        let copy = self.thm.copy(alloc)?;
-        let thm = granted(reshape(alloc, Terms::new(alloc), subgoals, copy))?;
+        let thm = reshape(alloc, self.subgoals.as_slice(), &self.thm)?;
         match split_rule(alloc, self.subgoals.len(), &thm)? {
             None => Err(AllocError),
             Some(parts) => Ok(Draft {
@@ -245,15 +238,5 @@ fn split_at_most(terms: &[Term], count: usize) -> (&[Term], &[Term])
         terms.split_at(count)
     } else {
         (terms, &[])
-    }
-}
-
-/// Want of memory, in the place of a refusal that can't come.
-fn granted(answer: Result<Thm, InferenceError>) -> Result<Thm, AllocError>
-    ensures { IfOk result (λ th. answer ≡ Ok th) }
-{
-    match answer {
-        Ok(th) => Ok(th),
-        Err(_) => Err(AllocError),
     }
 }

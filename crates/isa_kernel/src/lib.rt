@@ -14,7 +14,9 @@ mod type_instances;
 
 pub use axioms::{Axioms, NamedProp};
 pub use declarations::{AxiomFail, Declaration, TheoryFail};
-pub use form::{make_all, make_eq, make_imp, prop_type, split_all, split_eq, split_imp};
+pub use form::{
+    make_all, make_eq, make_imp, prop_type, split_all, split_eq, split_imp, split_quantifier,
+};
 pub use inference::InferenceError;
 pub use laws::{
     derived_are_propositions, instances_are_found, joins_are_least, normal_forms_are_derived,

@@ -14,8 +14,10 @@ use Rattle.isa_kernel.specs.Theories.{axiom_prop, axiom_theorem, axioms_in}
 use Rattle.isa_kernel.proofs.Members.{Member-left, Within-append}
 use Rattle.isa_kernel.proofs.Rules.{tree_more}
 use Rattle.isa_kernel.proofs.Theories.{axioms_append}
-use Rattle.isa_goal.specs.Goals.{Goals, implies}
-use Rattle.isa_goal.specs.Follows.{Each, Follows}
+use Rattle.isa_goal.specs.Goals.{Goals}
+use Rattle.isa_conversion.specs.Instances.{Each}
+use Rattle.isa_subgoal.specs.Premises.{implies}
+use Rattle.isa_goal.specs.Follows.{Follows}
 use Rattle.isa_terms.specs.Instance.{instance_of}
 use Rattle.isaprove.specs.declared.context.Fact.{Fact}
 use Rattle.isaprove.specs.declared.context.OpenLemma.{OpenLemma}

@@ -1,5 +1,5 @@
 use Rattle.isa_goal.proofs.Refining.{standing_propositions}
-use Rattle.isa_goal.proofs.Deriving.{derived_propositions}
+use Rattle.isa_subgoal.proofs.Deriving.{derived_propositions}
 use Rattle.isa_goal.proofs.Searching.{follows_more}
 use Rattle.isa_goal.proofs.Chaining.{follows_chain}
 use Rattle.isa_goal.proofs.laws.follows_is_transitive.Goals as goal

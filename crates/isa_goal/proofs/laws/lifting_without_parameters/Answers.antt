@@ -1,5 +1,0 @@
-use Rattle.isa_goal.proofs.NoParameter.{lifted_over_no_parameter}
-use Rattle.isa_goal.proofs.laws.lifting_without_parameters.Goals as goal
-
-pub returns : goal.returns
-returns c = lifted_over_no_parameter

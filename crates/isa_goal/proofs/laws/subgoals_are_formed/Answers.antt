@@ -1,8 +1,0 @@
-use Rattle.std.proofs.Common.{Bool, cond, ap}
-use Rattle.isa_goal.specs.Shape.{moved}
-use Rattle.isa_terms.specs.Norm.{norm}
-use Rattle.isa_goal.proofs.InForm.{shaped_in_form}
-use Rattle.isa_goal.proofs.laws.subgoals_are_formed.Goals as goal
-
-pub returns : goal.returns
-returns c = record { formed = shaped_in_form; stays = λ t e. ap (λ (b : Bool). cond b t (norm (moved t))) e }

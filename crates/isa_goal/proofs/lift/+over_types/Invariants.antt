@@ -1,5 +1,0 @@
-use Rattle.std.proofs.Common.{length}
-use Rattle.isa_goal.proofs.lift.+over_types.Given as goal
-
-abbrev pub decreases-over_types : goal.decreases-over_types
-decreases-over_types l = length l.parameters.now

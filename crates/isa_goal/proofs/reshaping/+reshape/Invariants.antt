@@ -1,5 +1,0 @@
-use Rattle.std.proofs.Common.{length}
-use Rattle.isa_goal.proofs.reshaping.+reshape.Given as goal
-
-abbrev pub decreases-reshape : goal.decreases-reshape
-decreases-reshape l = length l.subgoals.now

@@ -1,5 +1,0 @@
-use Rattle.isa_terms.specs.Terms.{nodes}
-use Rattle.isa_goal.proofs.shape.+gathered.Given as goal
-
-abbrev pub decreases-gathered : goal.decreases-gathered
-decreases-gathered l = nodes l.t.now

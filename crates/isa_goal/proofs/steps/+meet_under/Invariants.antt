@@ -1,5 +1,0 @@
-use Rattle.std.proofs.Common.{length}
-use Rattle.isa_goal.proofs.steps.+meet_under.Given as goal
-
-abbrev pub decreases-meet_under : goal.decreases-meet_under
-decreases-meet_under l = length l.premises.now

@@ -1,0 +1,15 @@
+pub mod Deriving
+pub mod Counts
+pub mod Splitting
+pub mod Consequences
+pub mod Instancing
+pub mod Cutting
+pub mod Rotating
+pub mod NoParameter
+pub mod Opening
+pub mod Spelling
+pub mod Regaining
+pub mod Shaping
+pub mod InForm
+pub mod Heads
+pub mod Answering

@@ -1,0 +1,44 @@
+-- The lifting of a rule over the parameters and the assumptions of a subgoal.
+use Rattle.std.specs.Prelude.{◌≡◌, ℕ, zero, suc, ◌+◌, List, [], ◌∷◌, map, length}
+use Rattle.isa_terms.specs.Types.{Ty}
+use Rattle.isa_terms.specs.Terms.{Tm, Const, Free, Unknown, Bound, Abs, App}
+use Rattle.isa_terms.specs.Typing.{function_of}
+use Rattle.isa_kernel.specs.Logic.{all}
+use Rattle.isa_kernel.specs.Theorem.{Theorem}
+use Rattle.isa_subgoal.specs.declared.lift.Parameter.{Parameter}
+use Rattle.isa_subgoal.specs.Premises.{implies, premises, conclusion}
+
+-- `!!x1 .. xk. P`
+abbrev pub quantified : List Parameter → Tm → Tm
+quantified [] p = p
+quantified (x ∷ xs) p = all x.name x.typ (quantified xs p)
+
+-- `S1 => .. => Sk => T` for the types of the parameters
+abbrev pub over_types : List Parameter → Ty → Ty
+over_types [] T = T
+over_types (x ∷ xs) T = function_of x.typ (over_types xs T)
+
+-- f applied to k parameters, the outermost first, under d binders more
+abbrev pub applied : Tm → ℕ → ℕ → Tm
+applied f zero d = f
+applied f (suc k) d = applied (App f (Bound (k + d))) k d
+
+-- the term with each unknown applied to all parameters, under d binders more
+abbrev pub lift : List Parameter → ℕ → Tm → Tm
+lift xs d (Const x T) = Const x T
+lift xs d (Free x T) = Free x T
+lift xs d (Unknown x i T) = applied (Unknown x i (over_types xs T)) (length xs) d
+lift xs d (Bound i) = Bound i
+lift xs d (Abs x T b) = Abs x T (lift xs (d + 1) b)
+lift xs d (App f a) = App (lift xs d f) (lift xs d a)
+
+-- a premise or the conclusion of a rule under the parameters and the assumptions, which may hold the parameters
+abbrev pub lift_over : List Parameter → List Tm → Tm → Tm
+lift_over xs hs p = quantified xs (implies hs (lift xs 0 p))
+
+abbrev pub lifted_prop : List Parameter → List Tm → Theorem → Tm
+lifted_prop xs hs th = implies (map (lift_over xs hs) (premises th.prop)) (lift_over xs hs (conclusion th.prop))
+
+-- over no parameter each premise and the conclusion stand under the assumptions, and nothing else changes
+abbrev pub LiftedOverNoParameter : Type 0
+LiftedOverNoParameter = (hs : List Tm) (th : Theorem) → lifted_prop [] hs th ≡ implies (map (implies hs) (premises th.prop)) (implies hs (conclusion th.prop))
