@@ -62,9 +62,10 @@ sets_rename_terms [] fs h k = k
 sets_rename_terms (g ∷ gs) fs h k = sets_rename_terms gs (set_term g fs) h.1 (set_renames_terms g fs h.0 k)
 
 pub naming_renames : (s : Goals) → RenamesTypes (type_naming s) × RenamesTerms (term_naming s)
-naming_renames s =
-    (sets_rename_types (type_entries s.goal 1 (type_unknowns_in (type_unknowns_of [] s.subgoals) s.goal)) [] (entries_rename_types s.goal 1 _) tt,
-        sets_rename_terms (entries (type_naming s) s.goal 1 (unknowns_in (unknowns_of [] s.subgoals) s.goal)) [] (entries_rename_terms (type_naming s) s.goal 1 _) tt)
+naming_renames s = (
+  sets_rename_types (type_entries s.goal 1 (type_unknowns_in (type_unknowns_of [] s.subgoals) s.goal)) [] (entries_rename_types s.goal 1 _) tt,
+  sets_rename_terms (entries (type_naming s) s.goal 1 (unknowns_in (unknowns_of [] s.subgoals) s.goal)) [] (entries_rename_terms (type_naming s) s.goal 1 _) tt,
+)
 
 -- ---- the subgoals
 abbrev IsFormed : Tm → Type 0
@@ -83,7 +84,7 @@ subgoals_formed s (t ∷ ts) w n = (named_form s (shaped t) (shaped_normal t w.0
 abbrev empty : Instance
 empty = record { types = []; terms = [] }
 
-normals_propositions : (ts : List Tm) → ArePropositions ts → ArePropositions (map (instance_of empty) ts)
+pub normals_propositions : (ts : List Tm) → ArePropositions ts → ArePropositions (map (instance_of empty) ts)
 normals_propositions [] w = tt
 normals_propositions (t ∷ ts) w = (instance_proposition empty t refl w.0, normals_propositions ts w.1)
 
