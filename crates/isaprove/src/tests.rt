@@ -98,7 +98,7 @@ fn refuses_texts(rt: HostRuntime) -> Result<(), AllocError> {
         (b"done\n", b"t.thy:1: not built yet\n"),
         (b"\xff\x00", b"t.thy:1: not built yet\n"),
         (
-            b"typedecl o\njudgment J :: \"o => prop\"\nlemma t: \"x\"",
+            b"typedecl o\njudgment J :: \"o => prop\"\nlemma t: \"((((((((((x))))))))))\"",
             b"t.thy:3: proof not closed\n",
         ),
     ] {
