@@ -6,7 +6,6 @@ use Rattle.isa_terms.specs.Normal.{IsNormal}
 use Rattle.isa_terms.specs.Instance.{Instance, instance_of, set_type, set_term, same_type_unknown, same_unknown}
 use Rattle.isa_terms.specs.declared.inst.TypeEntry.{TypeEntry}
 use Rattle.isa_terms.specs.declared.inst.TermEntry.{TermEntry}
-use Rattle.isa_kernel.specs.Logic.{IsProposition}
 use Rattle.isa_goal.specs.Goals.{Goals, IsStanding}
 use Rattle.isa_goal.specs.Names.{next_type_number, next_number, type_entries, entries, set_types, set_terms, type_unknowns_in, type_unknowns_of, unknowns_in, unknowns_of, type_naming, term_naming, naming, normalised, reshaped, canon}
 use Rattle.isa_subgoal.specs.Shape.{is_in_form, shaped}

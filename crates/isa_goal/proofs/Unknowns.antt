@@ -1,18 +1,17 @@
 -- An instance that only renames unknowns and type unknowns.
 use Rattle.std.specs.Prelude.{is_some, not, codes, option_map, option_and_then}
-use Rattle.std.proofs.Common.{◌≡◌, ℕ, ◌+◌, List, [], ◌∷◌, Bool, true, false, cond, ◌||◌, ◌&&◌, nat_eq, Option, Some, None, unwrap_or, refl, sym, ap, ◌∙◌, subst}
-use Rattle.std.specs.Cmp.Lexicographic.{bytes_decides}
+use Rattle.std.proofs.Common.{◌≡◌, ℕ, ◌+◌, List, [], ◌∷◌, Bool, true, false, cond, ◌||◌, ◌&&◌, nat_eq, Option, Some, None, unwrap_or, refl, sym, ap, ◌∙◌}
 use Rattle.isa_terms.specs.Types.{Ty, Tys, TyCon, TyFixed, TyUnknown, NoTys, MoreTys}
 use Rattle.isa_terms.specs.Terms.{Tm, Const, Free, Unknown, Bound, Abs, App}
 use Rattle.isa_terms.specs.Equal.{name_eq, ty_eq}
-use Rattle.isa_terms.specs.Typing.{function_of, two_args, function_parts}
+use Rattle.isa_terms.specs.Typing.{function_of, two_args}
 use Rattle.isa_terms.specs.Norm.{loose, norm}
 use Rattle.isa_terms.specs.Normal.{redex_at, redex, IsHead, IsNormal}
-use Rattle.isa_terms.specs.Instance.{Instance, instance_of, find_type, find_term, inst_ty, inst_tys, inst_tm}
+use Rattle.isa_terms.specs.Instance.{find_type, find_term, inst_ty, inst_tys, inst_tm}
 use Rattle.isa_terms.specs.declared.inst.TypeEntry.{TypeEntry}
 use Rattle.isa_terms.specs.declared.inst.TermEntry.{TermEntry}
 use Rattle.isa_kernel.specs.Logic.{prop, imp}
-use Rattle.isa_kernel.specs.Forms.{const_type, predicate_of, imp_parts, quantifier_parts}
+use Rattle.isa_kernel.specs.Forms.{predicate_of, imp_parts}
 use Rattle.isa_kernel.proofs.Parts.{imp_made}
 use Rattle.isa_conversion.proofs.Normal.{norm_same}
 use Rattle.isa_subgoal.specs.Premises.{conclusion}
