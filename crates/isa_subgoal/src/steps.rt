@@ -1,4 +1,4 @@
-ghost use Rattle.std.specs.Prelude.{◌≡◌, ◌++◌, map, Ok, IfOk};
+ghost use Rattle.std.specs.Prelude.{◌≡◌, ◌++◌, map, Ok, IfOk, is_ok};
 ghost use Rattle.isa_kernel.specs.Inferences.{Answers};
 ghost use Rattle.isa_subgoal.specs.Premises.{implies};
 ghost use Rattle.isa_subgoal.specs.Steps.{eliminated, introduced, cut, rotated, met_under, raised};
@@ -173,7 +173,8 @@ pub fn raise_rule(
 
 /// Want of memory, in the place of a refusal that can't come.
 pub fn granted(answer: Result<Thm, InferenceError>) -> Result<Thm, AllocError>
-    ensures { IfOk result (λ th. answer ≡ Ok th) }
+    ensures theorem { IfOk result (λ th. answer ≡ Ok th) }
+    ensures given { is_ok result ≡ is_ok answer }
 {
     match answer {
         Ok(th) => Ok(th),
