@@ -2,4 +2,4 @@ use Rattle.isa_subgoal.proofs.Answering.{cuts}
 use Rattle.isa_subgoal.proofs.steps.cut.Goals as goal
 
 pub returns : goal.returns
-returns c = cuts c.args.before.now c.args.premises.now c.args.th.now c.args.rule.now c.cut_through.result c.granted.result c.is_derived.ensures c.is_derived-2.ensures c.cut_through.ensures c.granted.ensures
+returns c = cuts c.args.before.now c.args.premises.now c.args.th.now c.args.rule.now c.cut_through.result c.granted.result c.is_derived.ensures c.is_derived-2.ensures c.cut_through.ensures c.granted.ensures.theorem
