@@ -1,7 +1,6 @@
 -- What the inferences behind a resolution answer.
 use Rattle.std.proofs.Common.{◌≡◌, ℕ, List, [], ◌∷◌, ◌++◌, map, length, true, ◌&&◌, Some, refl, sym, ap, ◌∙◌, subst}
-use Rattle.std.specs.Prelude.{Result, IfOk}
-use Rattle.std.specs.declared.alloc.AllocError.{AllocError}
+use Rattle.std.specs.Prelude.{option_and_then}
 use Rattle.isa_terms.specs.Terms.{Tm, Const, Free, Unknown, Bound, Abs, App}
 use Rattle.isa_terms.specs.Instance.{Instance, instance_of, inst_ty}
 use Rattle.isa_terms.specs.declared.inst.TypeEntry.{TypeEntry}
@@ -15,11 +14,13 @@ use Rattle.isa_conversion.proofs.Typed.{typed_of_type}
 use Rattle.isa_goal.specs.Goals.{Goals, IsStanding, around}
 use Rattle.isa_subgoal.specs.Premises.{implies, premises, conclusion, rule_form, rule_of}
 use Rattle.isa_goal.specs.Names.{unknowns_in, set_terms}
-use Rattle.isa_subgoal.specs.Rules.{Raises}
+use Rattle.isa_subgoal.specs.Steps.{raised}
+use Rattle.isa_goal.specs.Raising.{raised_instance}
 use Rattle.isa_goal.specs.Matching.{matched, is_first_order}
 use Rattle.isa_goal.specs.Resolving.{apart, new_types, matching, under_assumptions}
 use Rattle.isa_subgoal.proofs.Deriving.{ArePropositions, implies_typed, propositions_right}
-use Rattle.isa_subgoal.proofs.Answering.{raised_derived}
+use Rattle.isa_subgoal.proofs.Answering.{rule_parts, raised_derived}
+use Rattle.isa_subgoal.proofs.Cutting.{raised_is}
 use Rattle.isa_goal.proofs.Refining.{around_made, standing_propositions}
 use Rattle.isa_subgoal.proofs.Instancing.{instance_implies, instantiated_is}
 use Rattle.isa_subgoal.proofs.Splitting.{premises_all, same_length}
@@ -64,15 +65,24 @@ rule_instance n th h k =
     ∙ instantiated_is n (implies (premises th.prop) (conclusion th.prop)) th.base k
     ∙ ap (λ p. Some (record { hyps = []; prop = p; base = th.base })) (instance_implies n (premises th.prop) (conclusion th.prop))
 
-pub under_is : (hs ps : List Tm) (q : Tm) (n : Instance) (th inst : Theorem) (k : ℕ) (answer : Result Theorem AllocError) → th.hyps ≡ [] → k ≡ length (premises th.prop) → ArePropositions hs → keeps n.types n.terms ≡ true → instantiated n th ≡ Some inst → rule_form k inst ≡ Some (ps, q) → Raises hs ps inst answer → IfOk answer (λ x. x ≡ under_assumptions hs n th)
-under_is hs ps q n th inst k answer h l w kept e f r =
+-- ---- what the inferences give
+raised_found : (hs ps : List Tm) (q : Tm) (k : ℕ) (n : Instance) (th inst : Theorem) → instantiated n th ≡ Some inst → rule_form k inst ≡ Some (ps, q) → raised_instance hs k n th ≡ raised hs ps inst
+raised_found hs ps q k n th inst e f =
+    ap (λ o. option_and_then {T = Theorem} {U = Theorem} (λ x. option_and_then {T = List Tm × Tm} {U = Theorem} (λ parts. raised hs parts.0 x) (rule_form k x)) o) e
+    ∙ ap (λ o. option_and_then {T = List Tm × Tm} {U = Theorem} (λ parts. raised hs parts.0 inst) o) f
+
+-- the instance of a derived rule without hypotheses comes under the assumptions
+pub under_is : (hs : List Tm) (k : ℕ) (n : Instance) (th : Theorem) → IsDerived th → th.hyps ≡ [] → k ≡ length (premises th.prop) → ArePropositions hs → keeps n.types n.terms ≡ true → raised_instance hs k n th ≡ Some (under_assumptions hs n th)
+under_is hs k n th f h l w kept =
     let qs : List Tm = map (instance_of n) (premises th.prop) in
     let d : Tm = instance_of n (conclusion th.prop) in
-    let made : inst ≡ rule_of qs d th.base = cc (e, rule_instance n th h kept) in
-    let form : rule_form k inst ≡ Some (qs, d) = (λ i. rule_form ((l ∙ sym (same_length (instance_of n) (premises th.prop))) i) (made i)) ∙ premises_all qs d in
-    let parts : ◌≡◌ {A = List Tm × Tm} (ps, q) (qs, d) = cc (f, form) in
-    let raised : Raises hs qs inst answer = subst (λ ts. Raises hs ts inst answer) (λ i. (parts i).0) r in
-    subst (λ ts. IfOk answer (λ x. x ≡ rule_of ts (implies hs d) th.base)) (map_twice (implies hs) (instance_of n) (premises th.prop)) (raised d th.base w made)
+    let inst : Theorem = rule_of qs d th.base in
+    let made : instantiated n th ≡ Some inst = rule_instance n th h kept in
+    let v : ArePropositions qs = rule_parts qs d th.base inst (instantiated_sound n th inst made f) refl in
+    let form : rule_form k inst ≡ Some (qs, d) = (λ i. rule_form ((l ∙ sym (same_length (instance_of n) (premises th.prop))) i) inst) ∙ premises_all qs d in
+    raised_found hs qs d k n th inst made form
+    ∙ raised_is hs qs th.base d w v
+    ∙ ap (λ ts. Some (rule_of ts (implies hs d) th.base)) (map_twice (implies hs) (instance_of n) (premises th.prop))
 
 -- a rule under assumptions is derived
 pub under_derived : (hs : List Tm) (n : Instance) (th : Theorem) → IsDerived th → th.hyps ≡ [] → ArePropositions hs → keeps n.types n.terms ≡ true → IsDerived (under_assumptions hs n th)

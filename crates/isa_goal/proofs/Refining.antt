@@ -1,17 +1,19 @@
 -- A refined state stands for the theorem that the inferences give.
-use Rattle.std.proofs.Common.{◌≡◌, ℕ, ◌-◌, List, [], ◌∷◌, ◌++◌, take, drop, nat_eq, Bool, true, false, cond, Option, Some, None, refl, sym, ap, ◌∙◌, subst}
+use Rattle.std.proofs.Common.{◌≡◌, ℕ, ◌-◌, List, [], ◌∷◌, ◌++◌, take, drop, nat_eq, Bool, true, false, cond, Option, Some, None, refl, sym, ap, ◌∙◌}
 use Rattle.std.proofs.lemmas.List.{take-append-drop}
-use Rattle.std.specs.Prelude.{option_and_then, option_map, Result, Ok, IfOk}
-use Rattle.std.specs.declared.alloc.AllocError.{AllocError}
+use Rattle.std.specs.Prelude.{option_and_then, option_map, Result, Ok, Err}
 use Rattle.isa_terms.specs.Terms.{Tm}
 use Rattle.isa_terms.specs.Equal.{tm_eq}
 use Rattle.isa_kernel.specs.Axioms.{joined_bases}
 use Rattle.isa_kernel.specs.Theorem.{Theorem}
-use Rattle.isa_goal.specs.Goals.{Goals, IsStanding, theorem_of, Proves, head_split, around, refined}
+use Rattle.isa_kernel.specs.Inferences.{Answers}
+use Rattle.isa_kernel.specs.declared.inference.InferenceError.{InferenceError}
+use Rattle.isa_goal.specs.Goals.{Goals, IsStanding, theorem_of, Proves, head_split, around, refined, Gives}
 use Rattle.isa_subgoal.specs.Premises.{implies, rule_form, rule_of}
 use Rattle.isa_subgoal.specs.Rules.{Cuts}
 use Rattle.isa_subgoal.proofs.Deriving.{ArePropositions, derived_propositions}
 use Rattle.isa_subgoal.proofs.Splitting.{Form, rule_made}
+use Rattle.isa_goal.proofs.Answered.{answered, refused}
 
 cond_none : {A : Type 0} (b : Bool) (o : Option A) {y : A} → cond b None o ≡ Some y → (b ≡ false) × (o ≡ Some y)
 cond_none true o e = cc
@@ -34,11 +36,17 @@ placed s th at bs = record { subgoals = at.0 ++ (bs ++ at.2); goal = s.goal; bas
 
 -- ---- the state that the inferences give
 -- the theorem with the rule's premises in the place of the subgoal
-refined_theorem : (i n : ℕ) (s : Goals) (th thm x : Theorem) (us vs bs : List Tm) (w r : Tm) (answer : Result Theorem AllocError) → around i s.subgoals ≡ Some (us, w, vs) → rule_form n th ≡ Some (bs, r) → tm_eq w r ≡ true → Proves thm s → Cuts us bs thm th answer → answer ≡ Ok x → x ≡ theorem_of (placed s th (us, w, vs) bs)
-refined_theorem i n s th thm x us vs bs w r answer a f e p k q =
+refined_answer : (i n : ℕ) (s : Goals) (th thm : Theorem) (us vs bs : List Tm) (w r : Tm) (answer : Result Theorem InferenceError) → around i s.subgoals ≡ Some (us, w, vs) → rule_form n th ≡ Some (bs, r) → tm_eq w r ≡ true → Proves thm s → Cuts us bs thm th answer → Answers answer (Some (theorem_of (placed s th (us, w, vs) bs)))
+refined_answer i n s th thm us vs bs w r answer a f e p k =
     let here : s.subgoals ≡ us ++ (w ∷ vs) = around_made i s.subgoals (us, w, vs) a in
-    subst (λ o. IfOk o (λ y. y ≡ theorem_of (placed s th (us, w, vs) bs))) q
-    (k w r s.goal vs s.base th.base (p.same ∙ (λ j. rule_of (here j) s.goal s.base)) (rule_made n th (bs, r) f) e)
+    k w r s.goal vs s.base th.base (p.same ∙ (λ j. rule_of (here j) s.goal s.base)) (rule_made n th (bs, r) f) e
+
+refined_theorem : (i n : ℕ) (s : Goals) (th thm x : Theorem) (us vs bs : List Tm) (w r : Tm) (answer : Result Theorem InferenceError) → around i s.subgoals ≡ Some (us, w, vs) → rule_form n th ≡ Some (bs, r) → tm_eq w r ≡ true → Proves thm s → Cuts us bs thm th answer → answer ≡ Ok x → x ≡ theorem_of (placed s th (us, w, vs) bs)
+refined_theorem i n s th thm x us vs bs w r answer a f e p k q = answered answer x (theorem_of (placed s th (us, w, vs) bs)) (refined_answer i n s th thm us vs bs w r answer a f e p k) q
+
+-- no refusal comes
+pub refined_err : (i n : ℕ) (s : Goals) (th thm : Theorem) (us vs bs : List Tm) (w r : Tm) (answer : Result Theorem InferenceError) (fault : InferenceError) → around i s.subgoals ≡ Some (us, w, vs) → rule_form n th ≡ Some (bs, r) → tm_eq w r ≡ true → Proves thm s → Cuts us bs thm th answer → answer ≡ Err fault → Gives (Err fault) (refined i th n s)
+refined_err i n s th thm us vs bs w r answer fault a f e p k q = refused answer fault (theorem_of (placed s th (us, w, vs) bs)) (refined i th n s) (refined_answer i n s th thm us vs bs w r answer a f e p k) q
 
 refined_state : (i n : ℕ) (s : Goals) (th : Theorem) (us vs bs : List Tm) (w r : Tm) → around i s.subgoals ≡ Some (us, w, vs) → rule_form n th ≡ Some (bs, r) → tm_eq w r ≡ true → refined i th n s ≡ Some (placed s th (us, w, vs) bs)
 refined_state i n s th us vs bs w r a f e =
@@ -47,13 +55,13 @@ refined_state i n s th us vs bs w r a f e =
     ∙ ap (λ b. cond b (Some (placed s th (us, w, vs) bs)) None) e
 
 -- the answer's theorem, subgoals and goal make a state, which is the refined one
-pub refined_proves : (i n : ℕ) (s : Goals) (th thm x : Theorem) (us vs bs : List Tm) (w r : Tm) (answer : Result Theorem AllocError) (ss : List Tm) (g : Tm) → around i s.subgoals ≡ Some (us, w, vs) → rule_form n th ≡ Some (bs, r) → tm_eq w r ≡ true → Proves thm s → Cuts us bs thm th answer → answer ≡ Ok x → ss ≡ us ++ (bs ++ vs) → g ≡ s.goal →
+pub refined_proves : (i n : ℕ) (s : Goals) (th thm x : Theorem) (us vs bs : List Tm) (w r : Tm) (answer : Result Theorem InferenceError) (ss : List Tm) (g : Tm) → around i s.subgoals ≡ Some (us, w, vs) → rule_form n th ≡ Some (bs, r) → tm_eq w r ≡ true → Proves thm s → Cuts us bs thm th answer → answer ≡ Ok x → ss ≡ us ++ (bs ++ vs) → g ≡ s.goal →
     Proves x (record { subgoals = ss; goal = g; base = x.base })
 refined_proves i n s th thm x us vs bs w r answer ss g a f e p k o l h =
     let q : x ≡ theorem_of (placed s th (us, w, vs) bs) = refined_theorem i n s th thm x us vs bs w r answer a f e p k o in
     record { same = λ j. record { hyps = (q j).hyps; prop = (ap (λ (t : Theorem). t.prop) q ∙ (λ m. implies (sym l m) (sym h m))) j; base = x.base } }
 
-pub refined_gives : (i n : ℕ) (s : Goals) (th thm x : Theorem) (us vs bs : List Tm) (w r : Tm) (answer : Result Theorem AllocError) (ss : List Tm) (g : Tm) → around i s.subgoals ≡ Some (us, w, vs) → rule_form n th ≡ Some (bs, r) → tm_eq w r ≡ true → Proves thm s → Cuts us bs thm th answer → answer ≡ Ok x → ss ≡ us ++ (bs ++ vs) → g ≡ s.goal →
+pub refined_gives : (i n : ℕ) (s : Goals) (th thm x : Theorem) (us vs bs : List Tm) (w r : Tm) (answer : Result Theorem InferenceError) (ss : List Tm) (g : Tm) → around i s.subgoals ≡ Some (us, w, vs) → rule_form n th ≡ Some (bs, r) → tm_eq w r ≡ true → Proves thm s → Cuts us bs thm th answer → answer ≡ Ok x → ss ≡ us ++ (bs ++ vs) → g ≡ s.goal →
     refined i th n s ≡ Some (record { subgoals = ss; goal = g; base = x.base })
 refined_gives i n s th thm x us vs bs w r answer ss g a f e p k o l h =
     let q : x ≡ theorem_of (placed s th (us, w, vs) bs) = refined_theorem i n s th thm x us vs bs w r answer a f e p k o in

@@ -10,19 +10,20 @@ use Rattle.isa_kernel.specs.Logic.{IsProposition}
 use Rattle.isa_kernel.specs.Inferences.{keeps}
 use Rattle.isa_kernel.specs.Axioms.{propositions}
 use Rattle.isa_kernel.specs.Derivation.{Member, Within}
-use Rattle.isa_kernel.specs.Theorem.{Theorem}
+use Rattle.isa_kernel.specs.Theorem.{Theorem, IsDerived}
 use Rattle.isa_kernel.proofs.Members.{bases_left, bases_right}
 use Rattle.isa_goal.specs.Goals.{Goals, IsStanding, around, refined}
 use Rattle.isa_subgoal.specs.Premises.{premises, conclusion}
 use Rattle.isa_goal.specs.Names.{canon}
 use Rattle.isa_goal.specs.Follows.{Follows}
 use Rattle.isa_goal.specs.Matching.{matched, is_first_order}
+use Rattle.isa_goal.specs.Raising.{raised_instance}
 use Rattle.isa_goal.specs.Resolving.{matching, under_assumptions, resolved, attempt, with_first, results, base_of, FollowsIfFound, Search, left, Steps}
 use Rattle.isa_goal.specs.declared.found.Found.{Found}
 use Rattle.isa_goal.specs.declared.found.Found.TheVariants.{Outside, Res}
 use Rattle.isa_subgoal.proofs.Deriving.{derive_more}
 use Rattle.isa_subgoal.proofs.Consequences.{each_of, of_each}
-use Rattle.isa_goal.proofs.Lifting.{aim_propositions, matching_keeps}
+use Rattle.isa_goal.proofs.Lifting.{aim_propositions, matching_keeps, under_is}
 
 -- ---- one rule
 -- the rule under the subgoal's assumptions refines the state
@@ -37,14 +38,21 @@ resolve_is i k s th x us vs w ps c hs d fs n p q a r e m z l y =
     ∙ ap (λ o. option_and_then {T = List TermEntry} {U = Goals} (λ gs. option_map canon (refined i (under_assumptions (premises w) (matching gs th) th) (length (premises th.prop)) s)) o) found in
     (λ j. option_map canon (refined i ((y ∙ (λ v. under_assumptions (r v) (z v) th)) j) ((l ∙ ap length p) j) s)) ∙ sym whole
 
--- what the call on the rule asks for
-pub resolve_asks : (i : ℕ) (s : Goals) (th : Theorem) (us vs : List Tm) (w c d : Tm) (hs : List Tm) (fs : List TermEntry) (n : Instance) → IsStanding s → is_first_order c ≡ true → c ≡ conclusion th.prop → around i s.subgoals ≡ Some (us, w, vs) → hs ≡ premises w → matched c d [] ≡ Some fs → n ≡ matching fs th →
-    Each IsProposition hs × (keeps n.types n.terms ≡ true)
-resolve_asks i s th us vs w c d hs fs n st o q a r m z =
-    let found : matched (conclusion th.prop) d [] ≡ Some fs = (λ j. matched (sym q j) d []) ∙ m in (
-      subst (λ ts. Each IsProposition ts) (sym r) (aim_propositions i s (us, w, vs) st a),
-      subst (λ (x : Instance). keeps x.types x.terms ≡ true) (sym z) (matching_keeps fs th d (ap is_first_order (sym q) ∙ o) found),
-    )
+-- the inferences on the rule give it under the subgoal's assumptions
+pub resolve_raises : (i k : ℕ) (s : Goals) (th : Theorem) (us vs : List Tm) (w : Tm) (ps : List Tm) (c : Tm) (hs : List Tm) (d : Tm) (fs : List TermEntry) (n : Instance) → IsStanding s → IsDerived th → th.hyps ≡ [] → is_first_order c ≡ true →
+    ps ≡ premises th.prop → c ≡ conclusion th.prop → around i s.subgoals ≡ Some (us, w, vs) → hs ≡ premises w → matched c d [] ≡ Some fs → n ≡ matching fs th → k ≡ length ps →
+    raised_instance hs k n th ≡ Some (under_assumptions hs n th)
+resolve_raises i k s th us vs w ps c hs d fs n st der h o p q a r m z l =
+    let found : matched (conclusion th.prop) d [] ≡ Some fs = (λ j. matched (sym q j) d []) ∙ m in
+    under_is hs k n th der h (l ∙ ap length p)
+    (subst (λ ts. Each IsProposition ts) (sym r) (aim_propositions i s (us, w, vs) st a))
+    (subst (λ (x : Instance). keeps x.types x.terms ≡ true) (sym z) (matching_keeps fs th d (ap is_first_order (sym q) ∙ o) found))
+
+pub resolve_never : (x : Theorem) (o : Option Theorem) → o ≡ Some x → None ≡ o → ⊥
+resolve_never x o e f = cc
+
+pub resolve_some : (x y : Theorem) (o : Option Theorem) → o ≡ Some y → Some x ≡ o → x ≡ y
+resolve_some x y o e f = cc
 
 -- ---- following under more axioms
 pub follows_more : (ax bx : List Tm) (s t : Goals) → Within ax bx → Follows ax s t → Follows bx s t

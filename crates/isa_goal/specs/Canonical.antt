@@ -1,4 +1,5 @@
 -- What is known of a state in canonical form.
+-- Source: a schematic goal state in a standard form of its unknowns, as by Isabelle's `Drule.export_without_context` and `zero_var_indexes`: the unknowns are renamed apart and have the index 0. Which names they get then is a rule of our own (`Names`).
 use Rattle.std.specs.Prelude.{◌≡◌, Bool, true, ◌&&◌, nat_eq}
 use Rattle.isa_terms.specs.Types.{Ty, Tys, TyCon, TyFixed, TyUnknown, NoTys, MoreTys}
 use Rattle.isa_terms.specs.Terms.{Tm, Const, Free, Unknown, Bound, Abs, App}

@@ -1,4 +1,4 @@
-ghost use Rattle.std.specs.Prelude.{◌≡◌, take, drop, true, Some, IfOk};
+ghost use Rattle.std.specs.Prelude.{◌≡◌, take, drop, true, Some, Ok, IfOk, is_ok};
 ghost use Rattle.isa_kernel.specs.Inferences.{keeps};
 ghost use Rattle.isa_goal.specs.Follows.{instanced, IsNormalState};
 ghost use Rattle.isa_goal.specs.Names.{reshaped, canon, naming};
@@ -11,9 +11,7 @@ use crate::naming::{
 };
 use crate::places::around;
 use isa_kernel::{InferenceError, Thm, assume, implies_intr, instantiate_thm};
-use isa_subgoal::{
-    cut, granted, is_all, make_implies, reshape, rotate, spliced, split_leading, split_rule,
-};
+use isa_subgoal::{cut, is_all, make_implies, reshape, rotate, spliced, split_leading, split_rule};
 use isa_terms::{Inst, Term, Terms, Typs, copied, same_term};
 use std::alloc::{AllocError, Global};
 use std::marker::Model;
@@ -142,7 +140,7 @@ impl Draft {
         };
         let mut subgoals = Terms::new(alloc);
         subgoals.push(subgoal.copy()?)?;
-        let thm = rotate(alloc, before, subgoals.as_slice(), &self.thm)?;
+        let thm = never_refused(rotate(alloc, before, subgoals.as_slice(), &self.thm))?;
         let others = make_implies(alloc, behind, &self.goal)?;
         let goal = make_implies(alloc, before, &others)?;
         Ok(Draft {
@@ -164,7 +162,7 @@ impl Draft {
         let taken = split_leading(others, &self.goal, Terms::new(alloc))?;
         let (before, behind) = split_at_most(taken.premises.as_slice(), front);
         let subgoals = self.subgoals.as_slice();
-        let thm = rotate(alloc, subgoals, before, &self.thm)?;
+        let thm = never_refused(rotate(alloc, subgoals, before, &self.thm))?;
         let all = spliced(alloc, before, subgoals, behind)?;
         Ok(Draft {
             thm,
@@ -190,7 +188,7 @@ impl Draft {
         requires { keeps inst.now.types inst.now.terms ≡ true }
         ensures { IfOk result (λ t. t ≡ instanced inst.now self.now) }
     {
-        let thm = granted(instantiate_thm(alloc, inst, &self.thm))?;
+        let thm = never_refused(instantiate_thm(alloc, inst, &self.thm))?;
         match split_rule(alloc, self.subgoals.len(), &thm)? {
             None => Err(AllocError),
             Some(parts) => Ok(Draft {
@@ -206,7 +204,7 @@ impl Draft {
         requires { IsNormalState self.now }
         ensures { IfOk result (λ t. t ≡ reshaped self.now) }
     {
-        let thm = reshape(alloc, self.subgoals.as_slice(), &self.thm)?;
+        let thm = never_refused(reshape(alloc, self.subgoals.as_slice(), &self.thm))?;
         match split_rule(alloc, self.subgoals.len(), &thm)? {
             None => Err(AllocError),
             Some(parts) => Ok(Draft {
@@ -226,6 +224,17 @@ impl Draft {
         let shaped = normal.reshaped(alloc)?;
         let names = shaped.naming(alloc)?;
         shaped.instance(alloc, &names)
+    }
+}
+
+/// Want of memory, in the place of a refusal that can't come.
+pub(crate) fn never_refused(answer: Result<Thm, InferenceError>) -> Result<Thm, AllocError>
+    ensures theorem { IfOk result (λ th. answer ≡ Ok th) }
+    ensures given { is_ok result ≡ is_ok answer }
+{
+    match answer {
+        Ok(th) => Ok(th),
+        Err(_) => Err(AllocError),
     }
 }
 

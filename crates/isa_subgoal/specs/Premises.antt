@@ -1,4 +1,5 @@
 -- Propositions as premises and a conclusion, and the theorems that have this form.
+-- Source: Isabelle's meta-implication, and rules as propositions `A1 ==> .. ==> An ==> C` (Paulson, "The foundation of a generic theorem prover", 1989).
 use Rattle.std.specs.Prelude.{ℕ, zero, suc, List, [], ◌∷◌, Option, Some, None, Bool, false, is_some, codes}
 use Rattle.isa_terms.specs.Terms.{Tm, App}
 use Rattle.isa_kernel.specs.Logic.{imp}

@@ -1,4 +1,5 @@
 -- The inferences that bring a subgoal into its form.
+-- Source: Isabelle's normal form of rules with nested `!!`s and `==>`s, as by its `norm_hhf` (The Isabelle/Isar Implementation Manual, "Object-level rules"); here each subgoal is cut by the rule that it follows from what is in the form.
 use Rattle.std.specs.Prelude.{ℕ, zero, suc, ◌+◌, ◌-◌, nat_lt, List, [], ◌∷◌, ◌++◌, slice_get, unwrap_or, length, if◌then◌else◌, Option, Some, None}
 use Rattle.isa_terms.specs.Terms.{Tm, Const, Free, Unknown, Bound, Abs, App}
 use Rattle.isa_kernel.specs.Forms.{◌>>=◌, imp_parts, quantifier_parts}
@@ -55,7 +56,8 @@ regaining t = do
   rule ← implies_introduced (moved t) whole
   instantiated (record { types = []; terms = [] }) rule
 
--- the theorem with each of the subgoals behind the first ones in the form
+-- the theorem with each of the subgoals ts behind the premises us brought into the form, by a cut for each that has it not
+-- none where a subgoal that has not the form doesn't follow from what is in the form by these inferences, or where the cut gives none
 unfoldable pub reshaped_by : List Tm → List Tm → Theorem → Option Theorem
 reshaped_by us [] th = Some th
 reshaped_by us (t ∷ ts) th = if is_in_form t then reshaped_by (us ++ t ∷ []) ts th else do

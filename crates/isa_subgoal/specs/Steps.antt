@@ -1,4 +1,6 @@
--- The inferences behind the calls on theorems with premises.
+-- The inferences behind the calls on theorems with premises: derived rules of the pure logic, each as the primitive inferences that make it.
+-- Source: Paulson, "The foundation of a generic theorem prover", 1989; The Isabelle/Isar Implementation Manual, "Primitive logic", "Object-level rules".
+-- The premises are named by the call, and premises are equal that differ only in the names of binders. Hypotheses that equal a premise named go.
 use Rattle.std.specs.Prelude.{List, [], ◌∷◌, map, Option, Some}
 use Rattle.isa_terms.specs.Terms.{Tm}
 use Rattle.isa_kernel.specs.Forms.{◌>>=◌}
@@ -21,7 +23,8 @@ introduced (p ∷ ps) th = do
   inner ← introduced ps th
   implies_introduced p inner
 
--- the theorem with the premises of a rule in the place of the premise behind the first ones
+-- cut of a rule into a premise, as Isabelle's `RS` and `COMP` do once both are unified: the conclusion of the rule meets the premise behind us, and the rule's premises bs come in its place
+-- none where th has not the premises us and one more, where the rule has not the premises bs, or where its conclusion is not that premise
 unfoldable pub cut : List Tm → List Tm → Theorem → Theorem → Option Theorem
 cut us bs th rule = do
   front ← eliminated us th
@@ -30,7 +33,8 @@ cut us bs th rule = do
   inner ← introduced bs middle
   introduced us inner
 
--- two blocks of leading premises, the second one put in front
+-- rotation of premises, as by Isabelle's `rotate_prems` and `permute_prems`: of the leading blocks us and vs the second one comes in front
+-- none where th has not the premises us and then vs
 unfoldable pub rotated : List Tm → List Tm → Theorem → Option Theorem
 rotated us vs th = do
   a ← eliminated us th
@@ -47,7 +51,8 @@ met_under hs (p ∷ ps) th = do
   next ← implies_eliminated th b
   met_under hs ps next
 
--- the theorem with its premises and what is behind them under the assumptions
+-- lifting of a rule over assumptions, as by Isabelle's `lift_rule` at a subgoal without parameters: each of the premises ps, and what is behind them, comes under the assumptions hs
+-- none where th has not the premises ps, or where an assumption is no proposition
 unfoldable pub raised : List Tm → List Tm → Theorem → Option Theorem
 raised hs ps th = do
   core ← met_under hs ps th

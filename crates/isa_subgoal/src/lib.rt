@@ -12,4 +12,4 @@ pub use laws::{lifting_without_parameters, subgoals_are_formed};
 pub use lift::{Parameter, lifted};
 pub use premises::{Premises, conclusion, is_all, split_all_premises, split_leading, split_rule};
 pub use reshaping::reshape;
-pub use steps::{cut, granted, make_implies, raise_rule, rotate, spliced};
+pub use steps::{cut, make_implies, raise_rule, rotate, spliced};

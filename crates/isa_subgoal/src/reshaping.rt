@@ -1,12 +1,12 @@
 //! The inferences that bring a subgoal into its form.
-ghost use Rattle.std.specs.Prelude.{◌≡◌, ◌∷◌, IfOk};
+ghost use Rattle.std.specs.Prelude.{◌≡◌, [], ◌∷◌, IfOk};
 ghost use Rattle.isa_terms.specs.Terms.{Free};
 ghost use Rattle.isa_kernel.specs.Inferences.{Answers};
 ghost use Rattle.isa_subgoal.specs.Reshaping.{opened, name_lengths, colons, regained, regaining, reshaped_by};
 ghost use Rattle.isa_subgoal.specs.Rules.{Reshapes};
 
 use crate::shape::{gathered, is_in_form, shaped, spelled};
-use crate::steps::{cut_through, eliminate, granted, spliced};
+use crate::steps::{cut_by_inferences, eliminate, spliced};
 use isa_kernel::{
     InferenceError, Thm, assume, forall_elim, forall_intr, implies_intr, instantiate_thm,
     split_imp, split_quantifier,
@@ -166,16 +166,17 @@ fn reshape_behind(
     let rule = regaining(alloc, first)?;
     let mut form = Terms::new(alloc);
     form.push(shaped(alloc, first)?)?;
-    let next = cut_through(alloc, before.as_slice(), form.as_slice(), &th, &rule)?;
+    let next = cut_by_inferences(alloc, before.as_slice(), form.as_slice(), &th, &rule)?;
     before.push(form.get(0).copy()?)?;
     reshape_behind(alloc, before, rest, next)
 }
 
 /// The theorem with each of its premises, which are those, in the form.
-pub fn reshape(alloc: Global, subgoals: &[Term], th: &Thm) -> Result<Thm, AllocError>
-    ensures { Reshapes subgoals.now th.now result }
+pub fn reshape(alloc: Global, subgoals: &[Term], th: &Thm) -> Result<Thm, InferenceError>
+    ensures defined { Answers result (reshaped_by [] subgoals.now th.now) }
+    ensures theorem { Reshapes subgoals.now th.now result }
 {
     th.is_derived();
     let copy = th.copy(alloc)?;
-    granted(reshape_behind(alloc, Terms::new(alloc), subgoals, copy))
+    reshape_behind(alloc, Terms::new(alloc), subgoals, copy)
 }

@@ -1,4 +1,4 @@
-ghost use Rattle.std.specs.Prelude.{◌≡◌, ◌++◌, map, Ok, IfOk, is_ok};
+ghost use Rattle.std.specs.Prelude.{◌≡◌, ◌++◌, map, IfOk};
 ghost use Rattle.isa_kernel.specs.Inferences.{Answers};
 ghost use Rattle.isa_subgoal.specs.Premises.{implies};
 ghost use Rattle.isa_subgoal.specs.Steps.{eliminated, introduced, cut, rotated, met_under, raised};
@@ -39,7 +39,7 @@ fn introduce(alloc: Global, premises: &[Term], th: Thm) -> Result<Thm, Inference
 
 /// The theorem with a rule's premises in the place of the premise behind the first ones.
 #[tactic(auto, unfolding(crate::specs::Steps::cut))]
-pub(crate) fn cut_through(
+pub(crate) fn cut_by_inferences(
     alloc: Global,
     before: &[Term],
     premises: &[Term],
@@ -62,17 +62,23 @@ pub fn cut(
     premises: &[Term],
     th: &Thm,
     rule: &Thm,
-) -> Result<Thm, AllocError>
-    ensures { Cuts before.now premises.now th.now rule.now result }
+) -> Result<Thm, InferenceError>
+    ensures defined { Answers result (cut before.now premises.now th.now rule.now) }
+    ensures theorem { Cuts before.now premises.now th.now rule.now result }
 {
     th.is_derived();
     rule.is_derived();
-    granted(cut_through(alloc, before, premises, th, rule))
+    cut_by_inferences(alloc, before, premises, th, rule)
 }
 
 /// Two blocks of leading premises, the second one put in front.
 #[tactic(auto, unfolding(crate::specs::Steps::rotated))]
-fn turned(alloc: Global, first: &[Term], second: &[Term], th: &Thm) -> Result<Thm, InferenceError>
+fn rotate_by_inferences(
+    alloc: Global,
+    first: &[Term],
+    second: &[Term],
+    th: &Thm,
+) -> Result<Thm, InferenceError>
     ensures { Answers result (rotated first.now second.now th.now) }
 {
     let opened = eliminate(alloc, first, th.copy(alloc)?)?;
@@ -82,11 +88,17 @@ fn turned(alloc: Global, first: &[Term], second: &[Term], th: &Thm) -> Result<Th
 }
 
 /// The theorem with the second block of its leading premises in front of the first one.
-pub fn rotate(alloc: Global, first: &[Term], second: &[Term], th: &Thm) -> Result<Thm, AllocError>
-    ensures { Rotates first.now second.now th.now result }
+pub fn rotate(
+    alloc: Global,
+    first: &[Term],
+    second: &[Term],
+    th: &Thm,
+) -> Result<Thm, InferenceError>
+    ensures defined { Answers result (rotated first.now second.now th.now) }
+    ensures theorem { Rotates first.now second.now th.now result }
 {
     th.is_derived();
-    granted(turned(alloc, first, second, th))
+    rotate_by_inferences(alloc, first, second, th)
 }
 
 /// `H1 ==> .. ==> Hm ==> C`.
@@ -144,7 +156,7 @@ fn meet_under(
 
 /// The theorem with its premises and what is behind them under the assumptions.
 #[tactic(auto, unfolding(crate::specs::Steps::raised))]
-fn raise(
+fn raise_by_inferences(
     alloc: Global,
     assumptions: &[Term],
     premises: &[Term],
@@ -164,22 +176,12 @@ pub fn raise_rule(
     assumptions: &[Term],
     premises: &[Term],
     rule: Thm,
-) -> Result<Thm, AllocError>
-    ensures { Raises assumptions.now premises.now rule result }
+) -> Result<Thm, InferenceError>
+    ensures defined { Answers result (raised assumptions.now premises.now rule) }
+    ensures theorem { Raises assumptions.now premises.now rule result }
 {
     rule.is_derived();
-    granted(raise(alloc, assumptions, premises, rule))
-}
-
-/// Want of memory, in the place of a refusal that can't come.
-pub fn granted(answer: Result<Thm, InferenceError>) -> Result<Thm, AllocError>
-    ensures theorem { IfOk result (λ th. answer ≡ Ok th) }
-    ensures given { is_ok result ≡ is_ok answer }
-{
-    match answer {
-        Ok(th) => Ok(th),
-        Err(_) => Err(AllocError),
-    }
+    raise_by_inferences(alloc, assumptions, premises, rule)
 }
 
 /// The three lists behind one another.

@@ -1,5 +1,5 @@
 use Rattle.isa_subgoal.proofs.Answering.{raises}
 use Rattle.isa_subgoal.proofs.steps.raise_rule.Goals as goal
 
-pub returns : goal.returns
-returns c = raises c.args.assumptions.now c.args.premises.now c.args.rule c.raise.result c.granted.result c.is_derived.ensures c.raise.ensures c.granted.ensures.theorem
+pub returns-clause-theorem : goal.returns-clause-theorem
+returns-clause-theorem c = raises c.args.assumptions.now c.args.premises.now c.args.rule c.raise_by_inferences.result c.is_derived.ensures c.raise_by_inferences.ensures

@@ -1,5 +1,5 @@
 use Rattle.isa_subgoal.proofs.Answering.{rotates}
 use Rattle.isa_subgoal.proofs.steps.rotate.Goals as goal
 
-pub returns : goal.returns
-returns c = rotates c.args.first.now c.args.second.now c.args.th.now c.turned.result c.granted.result c.is_derived.ensures c.turned.ensures c.granted.ensures.theorem
+pub returns-clause-theorem : goal.returns-clause-theorem
+returns-clause-theorem c = rotates c.args.first.now c.args.second.now c.args.th.now c.rotate_by_inferences.result c.is_derived.ensures c.rotate_by_inferences.ensures

@@ -6,7 +6,7 @@ use Rattle.isa_goal.proofs.Focusing.{alone_proves, alone_focused}
 use Rattle.isa_goal.proofs.draft.Draft.alone_at.Goals as goal
 
 pub invariant_of-result : goal.invariant_of-result
-invariant_of-result c = alone_proves c.args.i c.args.self.now c.self.inside.thm c.in_ok-thm.thm c.in-Some.before.now c.in-Some.behind.now _ c.in-Some.subgoal.now _ c.in_ok-others.others c.rotate.result (subst (λ (x : Goals). Proves c.self.inside.thm x) (search rules) c.self.invariant) (search rules) (search rules) (search rules) (search rules) (subst (λ (ts : List Tm). Rotates c.in-Some.before.now ts c.self.inside.thm c.rotate.result) (search rules) c.rotate.ensures) (search rules)
+invariant_of-result c = alone_proves c.args.i c.args.self.now c.self.inside.thm c.in_ok-thm.thm c.in-Some.before.now c.in-Some.behind.now _ c.in-Some.subgoal.now _ c.in_ok-others.others c.rotate.result (subst (λ (x : Goals). Proves c.self.inside.thm x) (search rules) c.self.invariant) (search rules) (search rules) (search rules) (search rules) (subst (λ (ts : List Tm). Rotates c.in-Some.before.now ts c.self.inside.thm c.rotate.result) (search rules) c.rotate.ensures.theorem) (search rules)
 
 pub returns : goal.returns
-returns c = alone_focused c.args.i c.args.self.now c.self.inside.thm c.in_ok-thm.thm c.in-Some.before.now c.in-Some.behind.now _ c.in-Some.subgoal.now _ c.in_ok-others.others c.rotate.result (subst (λ (x : Goals). Proves c.self.inside.thm x) (search rules) c.self.invariant) (search rules) (search rules) (search rules) (search rules) (subst (λ (ts : List Tm). Rotates c.in-Some.before.now ts c.self.inside.thm c.rotate.result) (search rules) c.rotate.ensures) (search rules)
+returns c = alone_focused c.args.i c.args.self.now c.self.inside.thm c.in_ok-thm.thm c.in-Some.before.now c.in-Some.behind.now _ c.in-Some.subgoal.now _ c.in_ok-others.others c.rotate.result (subst (λ (x : Goals). Proves c.self.inside.thm x) (search rules) c.self.invariant) (search rules) (search rules) (search rules) (search rules) (subst (λ (ts : List Tm). Rotates c.in-Some.before.now ts c.self.inside.thm c.rotate.result) (search rules) c.rotate.ensures.theorem) (search rules)

@@ -11,9 +11,9 @@ use Rattle.isa_goal.proofs.draft.Draft.reshaped.Goals as goal
 pub invariant_of-result : goal.invariant_of-result
 invariant_of-result c =
     read_proves (length c.args.self.now.subgoals) (reshaped c.args.self.now) c.in_ok-thm.thm c.in-Some.parts.premises c.in-Some.parts.conclusion (sym (same_length shaped c.args.self.now.subgoals))
-    (reshaped_is c.args.self.now c.self.inside.thm c.in_ok-thm.thm c.reshape.result c.requires (subst (λ (x : Goals). Proves c.self.inside.thm x) (search rules) c.self.invariant) (subst (λ (ts : List Tm). Reshapes ts c.self.inside.thm c.reshape.result) (search rules) c.reshape.ensures) (search rules)) (search rules)
+    (reshaped_is c.args.self.now c.self.inside.thm c.in_ok-thm.thm c.reshape.result c.requires (subst (λ (x : Goals). Proves c.self.inside.thm x) (search rules) c.self.invariant) (subst (λ (ts : List Tm). Reshapes ts c.self.inside.thm c.reshape.result) (search rules) c.reshape.ensures.theorem) (search rules)) (search rules)
 
 pub returns-in-Some : goal.returns-in-Some
 returns-in-Some c =
     read_gives (length c.args.self.now.subgoals) (reshaped c.args.self.now) c.in_ok-thm.thm c.in-Some.parts.premises c.in-Some.parts.conclusion (sym (same_length shaped c.args.self.now.subgoals))
-    (reshaped_is c.args.self.now c.self.inside.thm c.in_ok-thm.thm c.reshape.result c.requires (subst (λ (x : Goals). Proves c.self.inside.thm x) (search rules) c.self.invariant) (subst (λ (ts : List Tm). Reshapes ts c.self.inside.thm c.reshape.result) (search rules) c.reshape.ensures) (search rules)) (search rules)
+    (reshaped_is c.args.self.now c.self.inside.thm c.in_ok-thm.thm c.reshape.result c.requires (subst (λ (x : Goals). Proves c.self.inside.thm x) (search rules) c.self.invariant) (subst (λ (ts : List Tm). Reshapes ts c.self.inside.thm c.reshape.result) (search rules) c.reshape.ensures.theorem) (search rules)) (search rules)
