@@ -1,8 +1,3 @@
-pub mod LineLemmas
-pub mod CommandLemmas
-pub mod TextLemmas
-pub mod InnerLemmas
-pub mod GrammarLemmas
 pub mod TakenLemmas
 pub mod Printing
 pub mod InputLemmas

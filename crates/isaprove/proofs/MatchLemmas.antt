@@ -20,7 +20,7 @@ use Rattle.isaprove.specs.Piece.{Shown, ShownState, ShownTheorem}
 use Rattle.isaprove.specs.Sound.{axioms_of, RestsOn, AreGrounded, IsGrounded, IsSoundShown}
 use Rattle.isaprove.specs.Steps.{Unbuilt, Fails, Prints, is_matchable, first_state, lemma_with, with_state, with_fact, shown, matched_by, matched_with, matched, free_names, proved, closed, finished_with, finished}
 use Rattle.isaprove.specs.Taken.{FirstResult}
-use Rattle.isaprove.specs.Text.{state_text, theorem_text}
+use Rattle.isa_print.specs.Text.{state_text, theorem_text}
 use Rattle.isaprove.proofs.SoundLemmas.{derives_more, follows_more, rests_joined, fact_rests, grounded_append}
 
 -- ---- a context after the method

@@ -1,20 +1,18 @@
--- What a call that reads a part of a line answers.
+-- What a call that makes a theorem or a state answers.
 use Rattle.std.specs.Prelude.{◌≡◌, Option, Some, None, Result, Ok, Err}
+use Rattle.isa_outer.specs.declared.error.SyntaxError.{SyntaxError}
+use Rattle.isa_outer.specs.declared.error.SyntaxError.TheVariants as error
 use Rattle.isaprove.specs.declared.refusal.Refusal.{Refusal}
 use Rattle.isaprove.specs.declared.refusal.Refusal.TheVariants.{NotBuilt, NoResult, Memory}
 
--- the line is refused exactly where the definition gives nothing
-abbrev pub Refuses : {A : Type 0} → Option A → Refusal → Type 0
-Refuses wanted NotBuilt = wanted ≡ None
-Refuses wanted NoResult = ⊥
-Refuses wanted Memory = Unit {0}
-
--- the answer, so seen, is what the definition gives
-abbrev pub AnswersBy : {A B : Type 0} → (A → B) → Result A Refusal → Option B → Type 0
-AnswersBy view (Ok a) wanted = wanted ≡ Some (view a)
-AnswersBy view (Err e) wanted = Refuses wanted e
-
--- the answer is what the definition gives
+-- the answer is what the definition gives, and the command is refused exactly where it gives nothing
 abbrev pub Answers : {A : Type 0} → Result A Refusal → Option A → Type 0
 Answers (Ok a) wanted = wanted ≡ Some a
-Answers (Err e) wanted = Refuses wanted e
+Answers (Err NotBuilt) wanted = wanted ≡ None
+Answers (Err NoResult) wanted = ⊥
+Answers (Err Memory) wanted = Unit {0}
+
+-- the refusal of a command one of whose texts is not read
+abbrev pub unread : SyntaxError → Refusal
+unread error.NotBuilt = NotBuilt
+unread error.Memory = Memory

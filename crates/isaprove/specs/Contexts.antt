@@ -8,7 +8,8 @@ use Rattle.isa_kernel.specs.Theorem.{Theorem, theorem_code}
 use Rattle.isa_kernel.specs.DeclarationCodes.{coded_declaration}
 use Rattle.isa_goal.specs.Goals.{Goals, goals_code}
 use Rattle.isa_kernel.specs.declared.declarations.Declaration.{Declaration}
-use Rattle.isaprove.specs.declared.context.Judgment.{Judgment}
+use Rattle.isa_syntax.specs.declared.signature.Judgment.{Judgment}
+use Rattle.isa_syntax.specs.Signatures.{SignatureSeen}
 use Rattle.isaprove.specs.declared.context.Fact.{Fact}
 use Rattle.isaprove.specs.declared.context.OpenLemma.{OpenLemma}
 
@@ -45,3 +46,7 @@ fact_of (f ∷ fs) x = if name_eq f.name x then Some f.thm else fact_of fs x
 abbrev pub judgment_name : Option Judgment → List ℕ
 judgment_name None = []
 judgment_name (Some j) = j.name
+
+-- what texts are read over
+abbrev pub signature_of : ContextSeen → SignatureSeen
+signature_of c = record { theory = c.theory; judgment = c.judgment }

@@ -1,11 +1,5 @@
 pub mod Answer
-pub mod Words
-pub mod Lines
-pub mod Commands
 pub mod Contexts
-pub mod Inner
-pub mod Grammar
-pub mod Text
 pub mod Piece
 pub mod Part
 pub mod Steps

@@ -14,7 +14,7 @@ use Rattle.isaprove.specs.declared.context.Fact.{Fact}
 use Rattle.isaprove.specs.Contexts.{ContextSeen, judgment_name}
 use Rattle.isaprove.specs.Piece.{Piece, Shown, ShownState, ShownTheorem, ToOut, ToErr}
 use Rattle.isaprove.specs.Steps.{first_state}
-use Rattle.isaprove.specs.Text.{state_text, theorem_text}
+use Rattle.isa_print.specs.Text.{state_text, theorem_text}
 
 -- the declared axioms
 abbrev pub axioms_of : List Declaration → List Tm

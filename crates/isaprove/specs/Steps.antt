@@ -1,5 +1,6 @@
--- What each command does.
-use Rattle.std.specs.Prelude.{ℕ, Bool, true, false, ◌&&◌, not, if◌then◌else◌, List, [], ◌∷◌, ◌++◌, Option, Some, None, option_map, is_some}
+-- What each command does. Source: the Isabelle/Isar Reference Manual, chapters "Specifications" (`typedecl`, `consts`,
+-- `axiomatization`, `judgment`) and "Proofs" (`lemma`, `apply`, `done`); `match` is this project's own.
+use Rattle.std.specs.Prelude.{ℕ, Bool, ◌&&◌, not, if◌then◌else◌, List, [], ◌∷◌, ◌++◌, Option, Some, None, option_map, is_some}
 use Rattle.isa_terms.specs.Types.{Ty}
 use Rattle.isa_terms.specs.Terms.{Tm, Const, Free, Unknown, Bound, Abs, App}
 use Rattle.isa_terms.specs.Typing.{function_of}
@@ -16,13 +17,14 @@ use Rattle.isa_goal.specs.Resolving.{results, all_first_order}
 use Rattle.isa_goal.specs.declared.found.Found.{Found}
 use Rattle.isa_goal.specs.declared.found.Found.TheVariants.{Res}
 use Rattle.isaprove.specs.declared.context.OpenLemma.{OpenLemma}
-use Rattle.isaprove.specs.declared.command.Command.{Command}
-use Rattle.isaprove.specs.declared.command.Command.TheVariants as command
-use Rattle.isaprove.specs.Commands.{◌>>=◌}
-use Rattle.isaprove.specs.Contexts.{ContextSeen, fact_of, judgment_name}
-use Rattle.isaprove.specs.Inner.{type_of_text, judged_type, prop_of_text}
+use Rattle.isa_outer.specs.declared.command.Command.{Command}
+use Rattle.isa_outer.specs.declared.command.Command.TheVariants as command
+use Rattle.isa_outer.specs.Commands.{◌>>=◌}
+use Rattle.isaprove.specs.Contexts.{ContextSeen, fact_of, judgment_name, signature_of}
+use Rattle.isa_syntax.specs.declared.signature.Variables.TheVariants as variables
+use Rattle.isa_syntax.specs.Inner.{type_of_text, judged_type, prop_of_text}
 use Rattle.isaprove.specs.Piece.{Shown, ShownState, ShownTheorem}
-use Rattle.isaprove.specs.Text.{state_text, theorem_text}
+use Rattle.isa_print.specs.Text.{state_text, theorem_text}
 
 -- what comes of a command
 pub data Outcome : Type 0 where
@@ -65,13 +67,13 @@ with_fact c x th = record c { facts = c.facts ++ (record { name = x; thm = th } 
 unfoldable pub with_axiom : ContextSeen → List ℕ → List ℕ → Option ContextSeen
 with_axiom c x text =
     if is_some (fact_of c.facts x) then None
-    else (prop_of_text c false text >>= (λ p. declared (Axiom x p) (axiom_refusal c.theory x p) c >>= (λ d. option_map (λ q. with_fact d x (axiom_theorem x q)) (axiom_prop d.theory x))))
+    else (prop_of_text (signature_of c) variables.Unknown text >>= (λ p. declared (Axiom x p) (axiom_refusal c.theory x p) c >>= (λ d. option_map (λ q. with_fact d x (axiom_theorem x q)) (axiom_prop d.theory x))))
 
 -- a lemma of a new name is open, with its proposition as the only subgoal
 unfoldable pub with_lemma : ContextSeen → ℕ → List ℕ → List ℕ → Option ContextSeen
 with_lemma c line x text =
     if is_some (fact_of c.facts x) then None
-    else (prop_of_text c true text >>= (λ p. option_map (λ s. record c { lemma = Some (record { line = line; name = x; state = canon s }) }) (started p)))
+    else (prop_of_text (signature_of c) variables.Fixed text >>= (λ p. option_map (λ s. record c { lemma = Some (record { line = line; name = x; state = canon s }) }) (started p)))
 
 -- ---- proof commands
 -- the first thing that is found, where it is a state

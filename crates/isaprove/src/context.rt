@@ -6,29 +6,22 @@ ghost use Rattle.isa_kernel.specs.declared.declarations.Declaration.TheVariants.
 ghost use Rattle.isa_goal.specs.Goals.{started};
 ghost use Rattle.isa_goal.specs.Names.{canon};
 ghost use Rattle.isaprove.specs.Answer.{Answers};
-ghost use Rattle.isaprove.specs.Contexts.{empty_context, fact_of, judgment_name};
+ghost use Rattle.isa_syntax.specs.Signatures.{seen};
+ghost use Rattle.isaprove.specs.Contexts.{empty_context, fact_of, judgment_name, signature_of};
 ghost use Rattle.isaprove.specs.Sound.{RestsOn};
 ghost use Rattle.isaprove.specs.Steps.{declared, with_type, with_constant, with_consts, with_judgment, with_axiom, with_lemma, lemma_with, with_state, matched, finished};
-ghost use Rattle.isaprove.specs.Text.{state_text};
+ghost use Rattle.isa_print.specs.Text.{state_text};
 ghost use Rattle.isaprove.specs.Taken.{Becomes, Printing};
 
-use crate::inner::{judged_type, prop_of_text, type_of_text};
 use crate::proof::{first_result, general_theorem};
 use crate::refusal::Refusal;
-use crate::text::{state_text, theorem_text};
 use isa_goal::State;
 use isa_kernel::{AxiomFail, InferenceError, Theory, TheoryFail, Thm, axiom, prop_type};
+use isa_print::{state_text, theorem_text};
+use isa_syntax::{Judgment, Signature, Variables, judged_type, prop_of_text, type_of_text};
 use isa_terms::{Name, Term, Typ, function_type};
 use std::alloc::{AllocError, Global};
 use std::marker::Model;
-
-/// The constant that stands in front of each term that is a proposition.
-#[derive(Drop)]
-pub struct Judgment {
-    pub name: Name,
-    /// The type of its argument.
-    pub typ: Typ,
-}
 
 /// An axiom, or a theorem that was proved.
 #[derive(Drop)]
@@ -81,17 +74,14 @@ impl Context {
         })
     }
 
-    /// The type of a declared constant.
-    pub fn constant(&self, name: &Name) -> Option<&Typ>
-        ensures { option_copied result ≡ constant_type self.now.theory name.now }
+    /// What texts are read over.
+    fn signature(&self) -> Signature<'_>
+        ensures { seen result ≡ signature_of self.now }
     {
-        self.theory.constant(name)
-    }
-
-    pub fn judgment(&self) -> Option<&Judgment>
-        ensures { option_copied result ≡ self.now.judgment }
-    {
-        self.judgment.as_ref()
+        Signature {
+            theory: &self.theory,
+            judgment: self.judgment.as_ref(),
+        }
     }
 
     pub fn is_in_proof(&self) -> bool
@@ -177,7 +167,7 @@ impl Context {
         if self.fact(name).is_some() {
             return Err(Refusal::NotBuilt);
         }
-        let prop = prop_of_text(alloc, self, false, text)?;
+        let prop = prop_of_text(alloc, &self.signature(), Variables::Unknown, text)?;
         self.declare_axiom(alloc, name, &prop)?;
         let thm = self.axiom(alloc, name)?;
         self.facts.push(Fact {
@@ -284,7 +274,7 @@ impl Context {
         if self.fact(name).is_some() {
             return Err(Refusal::NotBuilt);
         }
-        let prop = prop_of_text(alloc, self, true, text)?;
+        let prop = prop_of_text(alloc, &self.signature(), Variables::Fixed, text)?;
         let state = opening_state(alloc, &prop)?;
         self.lemma = Some(OpenLemma {
             line,

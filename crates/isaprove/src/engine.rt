@@ -1,22 +1,21 @@
 //! Running the text of a file.
 ghost use Rattle.std.specs.Prelude.{◌≡◌, ◌-◌, ◌^◌, ◌<◌, ◌≤◌, map, length, IfOk, string_bytes};
-ghost use Rattle.isaprove.specs.Answer.{AnswersBy};
-ghost use Rattle.isaprove.specs.Commands.{commands_of};
+ghost use Rattle.isa_outer.specs.Answer.{AnswersBy};
+ghost use Rattle.isa_outer.specs.Commands.{commands_of};
 ghost use Rattle.isaprove.specs.Does.{Does, StopsWith, sinks};
-ghost use Rattle.isaprove.specs.Lines.{line_view};
+ghost use Rattle.isa_outer.specs.Lines.{line_view};
 ghost use Rattle.isaprove.specs.Part.{at_line, stop};
 ghost use Rattle.isaprove.specs.Run.{part_of, close_text, run_command, run_commands, run_line, run_lines, run_text};
 ghost use Rattle.isaprove.specs.Steps.{outcome, declared_by};
 ghost use Rattle.isaprove.specs.Taken.{Becomes, ComesOut};
-ghost use Rattle.isaprove.specs.Words.{words_of};
+ghost use Rattle.isa_outer.specs.Words.{words_of};
 
-use crate::command::{Command, commands_of};
 use crate::context::Context;
 use crate::output::{print, report};
 use crate::refusal::Refusal;
 use crate::status::{Status, Stop};
-use crate::words::{Line, lines_of, words_of};
 use isa_io::Sink;
+use isa_outer::{Command, Line, SyntaxError, commands_of, lines_of, words_of};
 use std::alloc::{AllocError, Global};
 
 /// A message with the place that it speaks of.
@@ -142,7 +141,7 @@ fn run_commands<O: Sink, E: Sink>(
 }
 
 /// The commands of a line.
-fn read_line(alloc: Global, line: &Line<'_>) -> Result<Vec<Command>, Refusal>
+fn read_line(alloc: Global, line: &Line<'_>) -> Result<Vec<Command>, SyntaxError>
     ensures { AnswersBy (λ all. all.items) result (commands_of (words_of (line_view line.now).1)) }
 {
     let words = words_of(alloc, line.text)?;
@@ -174,8 +173,8 @@ fn run_line<O: Sink, E: Sink>(
             out,
             err,
         ),
-        Err(Refusal::Memory) => Err(Stop::Memory),
-        Err(_) => tell(
+        Err(SyntaxError::Memory) => Err(Stop::Memory),
+        Err(SyntaxError::NotBuilt) => tell(
             alloc,
             file,
             line.number,

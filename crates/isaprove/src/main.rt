@@ -1,21 +1,16 @@
 //! The program: a batch prover over files.
 #![tactic(auto)]
 
-mod command;
 mod context;
 mod engine;
-mod inner;
 mod output;
 mod proof;
 mod refusal;
 mod status;
 #[cfg(test)]
 mod tests;
-mod text;
 mod top;
-mod words;
 
-pub use inner::reads_the_grammar;
 use isa_io::{HostFiles, StreamSink};
 use std::io::ErrorKind;
 use std::process::ExitCode;

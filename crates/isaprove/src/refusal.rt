@@ -1,4 +1,5 @@
 //! Why a command is not taken.
+use isa_outer::SyntaxError;
 use std::alloc::{AllocError, AllocFailed};
 
 /// Why a command is not taken.
@@ -31,5 +32,19 @@ impl<T: Drop> From<AllocFailed<T>> for Refusal {
 
     fn from(_: AllocFailed<T>) -> Refusal {
         Refusal::Memory
+    }
+}
+
+impl From<SyntaxError> for Refusal {
+    ghost use Rattle.std.specs.Prelude.{◌≡◌};
+    ghost use Rattle.isaprove.specs.Answer.{unread};
+
+    ghost from_gives = { λ error e. e ≡ unread error };
+
+    fn from(error: SyntaxError) -> Refusal {
+        match error {
+            SyntaxError::NotBuilt => Refusal::NotBuilt,
+            SyntaxError::Memory => Refusal::Memory,
+        }
     }
 }

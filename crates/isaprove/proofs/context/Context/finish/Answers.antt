@@ -6,7 +6,7 @@ use Rattle.isaprove.specs.Contexts.{ContextSeen}
 use Rattle.isaprove.specs.Piece.{Shown}
 use Rattle.isaprove.specs.Sound.{IsSoundShown}
 use Rattle.isaprove.specs.Steps.{Prints, finished}
-use Rattle.isaprove.specs.Text.{theorem_text}
+use Rattle.isa_print.specs.Text.{theorem_text}
 use Rattle.isaprove.proofs.MatchLemmas.{finish_fails, finish_printed, proved_rests, proved_next, grounded_proved}
 use Rattle.isaprove.proofs.context.Context.finish.Goals as goal
 

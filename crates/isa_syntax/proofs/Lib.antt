@@ -1,0 +1,2 @@
+mod InnerLemmas
+mod GrammarLemmas

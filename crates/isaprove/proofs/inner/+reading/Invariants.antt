@@ -1,7 +1,0 @@
-use Rattle.isaprove.proofs.inner.+reading.Given as goal
-
-abbrev pub decreases-term_in : goal.decreases-term_in
-decreases-term_in l = l.depth
-
-abbrev pub decreases-arguments_in : goal.decreases-arguments_in
-decreases-arguments_in l = l.depth

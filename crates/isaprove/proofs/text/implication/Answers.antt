@@ -1,6 +1,0 @@
-use Rattle.std.proofs.Common.{rules}
-use Rattle.isaprove.proofs.TextLemmas.{is_implication}
-use Rattle.isaprove.proofs.text.implication.Goals as goal
-
-pub returns-then-is_constant-clause-found : goal.returns-then-is_constant-clause-found
-returns-then-is_constant-clause-found c = is_implication c.in-App-view.constant c.in-App-view.left c.in-App.right c.args.t.now (search rules) (search rules)
