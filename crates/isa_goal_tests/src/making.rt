@@ -1,4 +1,4 @@
-ghost use Rattle.std.specs.Prelude.{◌<◌, ◌≤◌, length, IsTrue};
+ghost use Rattle.std.specs.Prelude.{◌<◌, ◌≤◌, IsTrue};
 
 use crate::desk::Desk;
 use crate::rows::number;
@@ -66,19 +66,19 @@ fn focus(alloc: Global, desk: &Desk, rest: &str) -> Result<State, Fault> {
 }
 
 fn focused(alloc: Global, state: &State, place: usize) -> Result<State, Fault> {
-    if has_place(state, place) {
+    if is_place(place, state.subgoals().len()) {
         granted(state.focus(alloc, place))
     } else {
         Err(Fault::Words)
     }
 }
 
-/// Whether there is a subgoal of that number.
-fn has_place(state: &State, place: usize) -> bool
+/// Whether one of so many has that number, counted from 1.
+fn is_place(place: usize, count: usize) -> bool
     ensures first { IsTrue result → 0 < place }
-    ensures last { IsTrue result → place ≤ length state.now.subgoals }
+    ensures last { IsTrue result → place ≤ count }
 {
-    0 < place && place <= state.subgoals().len()
+    0 < place && place <= count
 }
 
 fn granted(answer: Result<State, AllocError>) -> Result<State, Fault> {
