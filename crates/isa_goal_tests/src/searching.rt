@@ -21,7 +21,10 @@ fn searched(alloc: Global, desk: &Desk, rest: &str) -> Result<Resolve, Fault> {
 }
 
 fn started(alloc: Global, rules: &Thms, state: &State, place: usize) -> Result<Resolve, Fault> {
-    if !are_first_order(rules) || state.has_parameter(place) {
+    if !are_first_order(rules) {
+        return Err(Fault::Words);
+    }
+    if state.has_parameter(place) {
         return Err(Fault::Words);
     }
     Ok(Resolve::start(alloc, rules, state, place, Mode::Intro, How::Match)?)
