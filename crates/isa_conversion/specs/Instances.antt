@@ -1,4 +1,5 @@
 -- Instances that keep types, and one instance after another.
+-- Source: composition of substitutions (textbooks on unification), here for terms with types.
 use Rattle.std.specs.Prelude.{◌≡◌, List, [], ◌∷◌, ◌++◌}
 use Rattle.isa_terms.specs.Terms.{Tm, Const, Free, Unknown, Bound, Abs, App, bare}
 use Rattle.isa_terms.specs.Typing.{HasType}

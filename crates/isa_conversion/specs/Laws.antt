@@ -1,4 +1,5 @@
 -- Laws of conversion and of normal forms.
+-- Source: textbooks on the typed lambda calculus: normal forms exist, are unique, and represent the classes of conversion.
 use Rattle.std.specs.Prelude.{◌≡◌, ℕ, List, map, Ok, ◌↔◌}
 use Rattle.isa_terms.specs.Types.{Ty}
 use Rattle.isa_terms.specs.Terms.{Tm, Abs, App, bare}

@@ -1,4 +1,5 @@
 -- Typing as a relation.
+-- Source: simply typed terms (textbooks on the typed lambda calculus).
 use Rattle.std.specs.Prelude.{◌≡◌, ℕ, List, ◌∷◌, Some, slice_get}
 use Rattle.isa_terms.specs.Types.{Ty}
 use Rattle.isa_terms.specs.Terms.{Tm, Const, Free, Unknown, Bound, Abs, App}

@@ -1,4 +1,5 @@
 -- A subgoal alone, and what comes of it put back.
+-- Source: a tactic on one subgoal alone, as Isabelle's `SELECT_GOAL` (The Isabelle/Isar Implementation Manual, "Tactical reasoning").
 use Rattle.std.specs.Prelude.{ℕ, ◌-◌, List, [], ◌∷◌, ◌++◌, take, drop, length, Option, Some, ◌≡◌}
 use Rattle.isa_terms.specs.Terms.{Tm}
 use Rattle.isa_kernel.specs.Forms.{◌>>=◌}

@@ -1,4 +1,5 @@
 -- How a state follows from another.
+-- Source: what tactics keep: the new goal state is derived from the old one, under an instance (Paulson, "The foundation of a generic theorem prover", 1989); stated as an implication between subgoals by this project.
 use Rattle.std.specs.Prelude.{◌≡◌, ℕ, List, [], ◌++◌, map, true, Some, Result, Ok, Err}
 use Rattle.isa_terms.specs.Terms.{Tm, bare}
 use Rattle.isa_terms.specs.Instance.{Instance, instance_of}

@@ -1,4 +1,5 @@
 -- When two states are the same, and how far a state is from a solved one.
+-- Source: the size of a state, as Isabelle's best-first search compares states by `size_of_thm`; that only subgoals count is this project's.
 use Rattle.std.specs.Prelude.{ℕ, ◌+◌, ◌-◌, ◌^◌, min, List, [], ◌∷◌, Bool, true, false, ◌&&◌}
 use Rattle.isa_terms.specs.Terms.{Tm, tm_size}
 use Rattle.isa_terms.specs.Equal.{tm_eq}

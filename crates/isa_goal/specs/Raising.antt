@@ -1,4 +1,5 @@
 -- The inferences that give the instance of a rule under assumptions.
+-- Source: lifting over assumptions (Paulson, "The foundation of a generic theorem prover", 1989).
 use Rattle.std.specs.Prelude.{ℕ, List, Option}
 use Rattle.isa_terms.specs.Terms.{Tm}
 use Rattle.isa_terms.specs.Instance.{Instance}

@@ -1,4 +1,5 @@
 -- Axioms by name, as sets.
+-- Source: this project: a theorem tells the axioms that it rests on, as Isabelle's `Thm_Deps` and oracles do for what they track.
 use Rattle.std.specs.Prelude.{refl, ℕ, List, [], ◌∷◌, ◌++◌, map, Bool, false, IsTrue, ◌||◌, ◌&&◌, if◌then◌else◌}
 use Rattle.std.specs.Coded.{Coded, code_by, coded×, coded_list, coded_ℕ}
 use Rattle.isa_terms.specs.Codes.{coded_tm}

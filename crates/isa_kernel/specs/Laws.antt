@@ -1,4 +1,5 @@
 -- Laws of the pure logic.
+-- Source: properties of Isabelle/Pure's inferences (Paulson, "The foundation of a generic theorem prover", 1989).
 use Rattle.std.specs.Prelude.{◌≡◌, List, [], IsTrue}
 use Rattle.isa_terms.specs.Types.{Ty}
 use Rattle.isa_terms.specs.Terms.{Tm, bare}

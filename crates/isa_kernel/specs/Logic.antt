@@ -1,4 +1,5 @@
 -- The propositions of the pure logic, as terms.
+-- Source: the connectives of Isabelle/Pure (The Isabelle/Isar Implementation Manual, "Primitive logic", "Theorems").
 use Rattle.std.specs.Prelude.{ℕ, List, codes}
 use Rattle.isa_terms.specs.Types.{Ty, TyCon, NoTys}
 use Rattle.isa_terms.specs.Terms.{Tm, Const, Abs, App}

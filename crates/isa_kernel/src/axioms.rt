@@ -6,7 +6,7 @@ use std::alloc::{AllocError, Global};
 use std::marker::Model;
 use std::rc::Rc;
 
-/// An one, by its name and its proposition.
+/// An axiom: its name and its proposition.
 #[derive(Drop)]
 pub struct NamedProp {
     pub name: Name,
@@ -55,7 +55,7 @@ impl Model for Axioms {
 }
 
 impl Axioms {
-    /// No one, which takes no memory.
+    /// No axiom, which takes no memory.
     pub fn new(alloc: Global) -> Axioms
         ensures { result ≡ [] }
     {

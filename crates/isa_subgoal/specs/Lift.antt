@@ -1,4 +1,5 @@
 -- The lifting of a rule over the parameters and the assumptions of a subgoal.
+-- Source: lifting (Paulson, "The foundation of a generic theorem prover", 1989; The Isabelle/Isar Implementation Manual, "Object-level rules", "Rule composition").
 use Rattle.std.specs.Prelude.{◌≡◌, ℕ, zero, suc, ◌+◌, List, [], ◌∷◌, map, length}
 use Rattle.isa_terms.specs.Types.{Ty}
 use Rattle.isa_terms.specs.Terms.{Tm, Const, Free, Unknown, Bound, Abs, App}

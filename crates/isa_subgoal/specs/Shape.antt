@@ -1,4 +1,5 @@
 -- The form of a subgoal: `!!`s, then `==>`s, then a conclusion that is neither.
+-- Source: hereditary Harrop formulas (The Isabelle/Isar Implementation Manual, "Object-level rules"); that a subgoal in the form stays as it is, names included, is this project's.
 use Rattle.std.specs.Prelude.{◌≡◌, List, [], ◌∷◌, ◌++◌, map, Bool, true, ◌||◌, if◌then◌else◌, Some, None, is_some, not, codes}
 use Rattle.isa_terms.specs.Types.{Ty}
 use Rattle.isa_terms.specs.Terms.{Tm, Bound, Abs, App}

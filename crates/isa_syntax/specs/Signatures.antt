@@ -1,4 +1,5 @@
 -- What contracts see of a signature.
+-- Source: the signature of a theory (the Isabelle/Isar Reference Manual, "Specifications"); the judgment is `judgment` there.
 use Rattle.std.specs.Prelude.{List, Option}
 use Rattle.std.specs.Option.{option_copied}
 use Rattle.isa_kernel.specs.declared.declarations.Declaration.{Declaration}

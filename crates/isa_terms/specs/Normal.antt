@@ -1,4 +1,5 @@
 -- What a normal form is.
+-- Source: textbooks on the lambda calculus.
 use Rattle.std.specs.Prelude.{◌≡◌, nat_eq, Bool, false, not, ◌&&◌}
 use Rattle.isa_terms.specs.Terms.{Tm, Bound, Abs, App}
 use Rattle.isa_terms.specs.Norm.{loose}

@@ -1,4 +1,5 @@
 -- The term order: sizes, then heads, then the number of arguments, then the arguments from left to right.
+-- Source: the term order of ordered rewriting (the Isabelle/Isar Reference Manual, "The Simplifier", "Ordered rewriting"): the order by size, head and arguments; the order among heads is this project's.
 use Rattle.std.specs.Prelude.{ℕ, ◌+◌, ◌-◌, ◌^◌, min, List, [], ◌∷◌, length, Bool, true, false, ◌&&◌, not, nat_eq, nat_lt, if◌then◌else◌}
 use Rattle.std.specs.declared.cmp.Ordering.{Ordering}
 use Rattle.std.specs.declared.cmp.Ordering.TheVariants.{Equal}

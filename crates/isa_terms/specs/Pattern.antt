@@ -1,4 +1,5 @@
 -- Patterns: terms whose unknowns are applied to distinct bound variables only.
+-- Source: higher-order patterns (Miller, "A logic programming language with lambda-abstraction, function variables, and simple unification", 1991).
 use Rattle.std.specs.Prelude.{ℕ, Bool, true, false, ◌||◌, ◌&&◌, not, nat_eq, if◌then◌else◌}
 use Rattle.isa_terms.specs.Terms.{Tm, Unknown, Bound, Abs, App}
 use Rattle.isa_terms.specs.Order.{head_of}

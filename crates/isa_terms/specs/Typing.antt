@@ -1,4 +1,5 @@
 -- The type of a term, or the first place that breaks the rules.
+-- Source: simply typed terms, as in Isabelle/Pure (The Isabelle/Isar Implementation Manual, "Primitive logic", "Terms"); which fault comes first is this project's.
 use Rattle.std.specs.Prelude.{◌≡◌, ℕ, List, [], ◌∷◌, Option, Some, None, Result, Ok, Err, codes, slice_get, if◌then◌else◌}
 use Rattle.isa_terms.specs.Types.{Ty, Tys, TyCon, TyFixed, TyUnknown, NoTys, MoreTys}
 use Rattle.isa_terms.specs.Equal.{name_eq, ty_eq}

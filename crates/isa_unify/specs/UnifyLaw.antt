@@ -1,4 +1,5 @@
 -- What unification finds: an instance that makes the sides of the equations equal, and that is most general.
+-- Source: most general unifiers (Robinson, 1965; for patterns Miller, 1991; Nipkow, "Functional unification of higher-order patterns", 1993).
 use Rattle.std.specs.Prelude.{◌≡◌, ℕ, ◌<◌, List, [], ◌∷◌, Ok}
 use Rattle.isa_terms.specs.Types.{Ty}
 use Rattle.isa_terms.specs.Terms.{Tm, Unknown, Abs, App, bare}

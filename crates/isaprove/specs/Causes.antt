@@ -1,4 +1,5 @@
 -- When a run answers 64, and 4.
+-- Source: this project; 64 is `EX_USAGE` of BSD's sysexits.
 use Rattle.std.specs.Prelude.{◌≡◌, ◌≢◌, ◌⊎◌, ℕ, ◌<◌, false, List, [], ◌∷◌, None, IsSomeAnd}
 use Rattle.isa_io.specs.FilesSeen.{FilesSeen, Texts, text_of}
 use Rattle.isaprove.specs.Run.{is_reading}

@@ -1,4 +1,5 @@
 -- What a run prints: pieces, each for one of the two sinks.
+-- Source: this project.
 use Rattle.std.specs.Prelude.{ℕ, List, [], ◌∷◌, ◌++◌, take}
 use Rattle.isa_terms.specs.Terms.{Tm}
 use Rattle.isa_kernel.specs.Theorem.{Theorem}

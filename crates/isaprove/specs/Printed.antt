@@ -1,4 +1,5 @@
 -- What was written of a list of pieces.
+-- Source: writes that may fail, as Rust's `std::io::Write` has them.
 use Rattle.std.specs.Prelude.{◌≡◌, ◌≢◌, ◌↔◌, ◌⊎◌, ℕ, ◌<◌, List, [], ◌∷◌, ◌++◌}
 use Rattle.std.specs.Io.KnownBytes.{Appends}
 use Rattle.isa_io.specs.SinkSeen.{SinkSeen}

@@ -1,4 +1,5 @@
 -- What a run shows is sound: printed states follow, and printed theorems derive.
+-- Source: this project: what a batch run of a prover owes its reader.
 use Rattle.std.specs.Prelude.{◌≡◌, ℕ, List, [], ◌∷◌, map, Some, IfSome}
 use Rattle.isa_terms.specs.Terms.{Tm, bare}
 use Rattle.isa_kernel.specs.declared.axioms.NamedProp.{NamedProp}
