@@ -1,9 +1,8 @@
 use crate::desk::Desk;
-use crate::rows::{is_word, number};
 use crate::searching::{next_row, search_row};
 use isa_goal::State;
 use isa_kernel::Thm;
-use isa_sketch::{Bench, Fault, split};
+use isa_sketch::{Bench, Fault, is_word, number, split};
 use isa_terms::{Term, same_term};
 use std::alloc::Global;
 

@@ -9,7 +9,7 @@ mod rows;
 mod searching;
 
 use crate::desk::Desk;
-use isa_sketch::Fault;
+use isa_sketch::print_answer;
 use std::alloc::AllocError;
 use std::io;
 
@@ -20,13 +20,8 @@ fn main(rt: HostRuntime) -> io::Result<()> {
     };
     for line in rt.lines(alloc) {
         let line = line?;
-        match rows::row(alloc, &mut desk, line.as_str()) {
-            Ok(None) => {}
-            Ok(Some(true)) => println!(rt; "ok      {line}")?,
-            Ok(Some(false)) => println!(rt; "DIFFERS {line}")?,
-            Err(Fault::Memory) => return Err(AllocError.into()),
-            Err(_) => println!(rt; "FAULT   {line}")?,
-        }
+        let answer = rows::row(alloc, &mut desk, line.as_str());
+        print_answer(rt, line.as_str(), answer)?;
     }
     Ok(())
 }

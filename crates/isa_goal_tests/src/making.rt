@@ -1,11 +1,10 @@
 ghost use Rattle.std.specs.Prelude.{◌<◌, ◌≤◌, IsTrue};
 
 use crate::desk::Desk;
-use crate::rows::number;
 use crate::searching::next;
 use isa_goal::State;
 use isa_kernel::{InferenceError, Thm};
-use isa_sketch::{Bench, Fault, split};
+use isa_sketch::{Bench, Fault, number, split};
 use std::alloc::{AllocError, Global};
 
 /// The state that the call makes.
@@ -31,7 +30,7 @@ fn refine(alloc: Global, desk: &Desk, rest: &str) -> Result<State, Fault> {
     let (name, rest) = split(rest)?;
     let (place, rest) = split(rest)?;
     let (count, words) = split(rest)?;
-    let th = theorem(alloc, &desk.bench, words)?;
+    let th = desk.bench.thm(alloc, words)?;
     refined(
         alloc,
         desk.state(name)?,
@@ -39,14 +38,6 @@ fn refine(alloc: Global, desk: &Desk, rest: &str) -> Result<State, Fault> {
         &th,
         number(count)?,
     )
-}
-
-/// The theorem that the words derive, of which no inference may be refused.
-pub fn theorem(alloc: Global, bench: &Bench, words: &str) -> Result<Thm, Fault> {
-    match bench.thm(alloc, words) {
-        Ok(th) => Ok(th),
-        Err(fault) => Err(fault.as_words()),
-    }
 }
 
 fn refined(

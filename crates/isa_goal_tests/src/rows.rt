@@ -2,7 +2,7 @@ use crate::asking::asked;
 use crate::desk::Desk;
 use crate::making::made;
 use isa_goal::State;
-use isa_sketch::{Fault, split};
+use isa_sketch::{Fault, is_word, split};
 use std::alloc::Global;
 
 /// Whether the row's call answers what it should, of a row with a call.
@@ -34,17 +34,5 @@ fn is_shape(answer: Result<State, Fault>) -> bool {
     match answer {
         Err(Fault::Shape) => true,
         _ => false,
-    }
-}
-
-pub fn is_word(text: &str, word: &str) -> bool {
-    text == word
-}
-
-/// The number that the text writes.
-pub fn number(text: &str) -> Result<usize, Fault> {
-    match text.parse::<usize>() {
-        Ok(number) => Ok(number),
-        Err(_) => Err(Fault::Words),
     }
 }

@@ -1,9 +1,7 @@
 use crate::desk::Desk;
-use crate::making::theorem;
-use crate::rows::{is_word, number};
 use isa_goal::{Found, How, Mode, Resolve, State, are_first_order};
 use isa_kernel::{Thm, Thms};
-use isa_sketch::{Bench, Fault, split};
+use isa_sketch::{Bench, Fault, is_word, number, split};
 use std::alloc::Global;
 
 /// Begins a search by the words `STATE PLACE` and theorems, as `T , U`.
@@ -33,7 +31,7 @@ fn started(alloc: Global, rules: &Thms, state: &State, place: usize) -> Result<R
 fn rules(alloc: Global, bench: &Bench, text: &str) -> Result<Thms, Fault> {
     let mut all = Thms::new(alloc);
     for words in text.split(" , ") {
-        push(&mut all, theorem(alloc, bench, words)?)?;
+        push(&mut all, bench.thm(alloc, words)?)?;
     }
     Ok(all)
 }

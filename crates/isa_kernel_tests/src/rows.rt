@@ -1,6 +1,6 @@
 use crate::theorems::theorem_row;
 use crate::theories::theory_row;
-use isa_sketch::{Bench, Fault, split};
+use isa_sketch::{Bench, Fault, is_word, split};
 use isa_terms::Name;
 use std::alloc::Global;
 
@@ -32,18 +32,6 @@ pub fn is_about(text: &str, word: &str, name: &Name) -> bool {
     }
 }
 
-pub fn is_word(text: &str, word: &str) -> bool {
-    text == word
-}
-
 fn is_name(name: &Name, text: &str) -> bool {
     name.is_text(text)
-}
-
-/// The number that the text writes.
-pub fn number(text: &str) -> Result<usize, Fault> {
-    match text.parse::<usize>() {
-        Ok(number) => Ok(number),
-        Err(_) => Err(Fault::Words),
-    }
 }

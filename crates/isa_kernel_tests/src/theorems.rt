@@ -1,6 +1,6 @@
-use crate::rows::{is_about, is_word, number};
+use crate::rows::is_about;
 use isa_kernel::Thm;
-use isa_sketch::{Bench, Fault, split};
+use isa_sketch::{Bench, Fault, is_word, number, split};
 use isa_terms::{Term, same_term};
 use std::alloc::Global;
 

@@ -1,6 +1,6 @@
-use crate::rows::{is_about, is_word, number};
+use crate::rows::is_about;
 use isa_kernel::{Theory, TheoryFail};
-use isa_sketch::{Bench, Fault, split, typ};
+use isa_sketch::{Bench, Fault, is_word, number, split, typ};
 use isa_terms::Name;
 use std::alloc::Global;
 

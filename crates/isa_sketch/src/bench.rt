@@ -1,7 +1,8 @@
 use crate::fault::Fault;
 use crate::rule::Rule;
 use crate::stack::Stack;
-use crate::symbols::{Symbols, split};
+use crate::symbols::Symbols;
+use crate::words::split;
 use isa_kernel::{Theory, Thm};
 use isa_terms::Term;
 use std::alloc::Global;
@@ -37,9 +38,12 @@ impl Bench {
         self.read(alloc, text)?.take_term()
     }
 
-    /// The theorem that the words derive.
+    /// The theorem that the words derive. A refusal is a fault of the words.
     pub fn thm(&self, alloc: Global, text: &str) -> Result<Thm, Fault> {
-        self.read(alloc, text)?.take_thm()
+        match self.read(alloc, text) {
+            Ok(mut stack) => stack.take_thm(),
+            Err(fault) => Err(fault.as_words()),
+        }
     }
 
     /// What the first word's inference answers. A refusal before it is a fault of the words.

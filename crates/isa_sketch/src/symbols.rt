@@ -1,5 +1,6 @@
 use crate::fault::Fault;
 use crate::types::typ;
+use crate::words::split;
 use isa_terms::{Name, Term, TermNode};
 use std::alloc::Global;
 
@@ -50,11 +51,6 @@ impl Symbols {
             Err(_) => Err(Fault::Memory),
         }
     }
-}
-
-/// The first word and the words behind it.
-pub fn split(text: &str) -> Result<(&str, &str), Fault> {
-    text.split_once(' ').ok_or(Fault::Words)
 }
 
 /// The constant, free variable or unknown of that kind, name and type.

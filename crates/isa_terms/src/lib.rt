@@ -18,8 +18,6 @@ mod replace;
 mod same;
 mod term;
 mod terms;
-#[cfg(test)]
-mod tests;
 mod typ;
 mod typing;
 

@@ -7,7 +7,7 @@ mod matches;
 mod rows;
 mod unifications;
 
-use isa_sketch::{Bench, Fault};
+use isa_sketch::{Bench, print_answer};
 use std::alloc::AllocError;
 use std::io;
 
@@ -18,13 +18,8 @@ fn main(rt: HostRuntime) -> io::Result<()> {
     };
     for line in rt.lines(alloc) {
         let line = line?;
-        match rows::row(alloc, &mut bench, line.as_str()) {
-            Ok(None) => {}
-            Ok(Some(true)) => println!(rt; "ok      {line}")?,
-            Ok(Some(false)) => println!(rt; "DIFFERS {line}")?,
-            Err(Fault::Memory) => return Err(AllocError.into()),
-            Err(_) => println!(rt; "FAULT   {line}")?,
-        }
+        let answer = rows::row(alloc, &mut bench, line.as_str());
+        print_answer(rt, line.as_str(), answer)?;
     }
     Ok(())
 }

@@ -1,6 +1,6 @@
 use crate::instances::{all_become, becomes};
-use crate::rows::{Call, is_word};
-use isa_sketch::{Bench, Fault};
+use crate::rows::Call;
+use isa_sketch::{Bench, Fault, is_word};
 use isa_terms::{Inst, Term};
 use isa_unify::{match_pattern, match_patterns};
 use std::alloc::Global;

@@ -47,7 +47,3 @@ fn answers(alloc: Global, bench: &Bench, verb: &str, row: &Call<'_>) -> Result<b
         _ => Err(Fault::Words),
     }
 }
-
-pub fn is_word(text: &str, word: &str) -> bool {
-    text == word
-}

@@ -1,6 +1,6 @@
 use crate::instances::{all_become, makes_equal};
-use crate::rows::{Call, is_word};
-use isa_sketch::{Bench, Fault, typ};
+use crate::rows::Call;
+use isa_sketch::{Bench, Fault, is_word, number, typ};
 use isa_terms::{Inst, Term, Terms, Typ, inst_typ, same_typ};
 use isa_unify::{Fresh, Unified, unify, unify_types};
 use std::alloc::Global;
@@ -47,10 +47,7 @@ fn is_unifier(
 }
 
 fn is_number(fresh: &Fresh, text: &str) -> Result<bool, Fault> {
-    match text.parse::<u32>() {
-        Ok(number) => Ok(fresh.number() == number),
-        Err(_) => Err(Fault::Words),
-    }
+    Ok(fresh.number() as usize == number(text)?)
 }
 
 /// Whether unification of types answers what it should; a unifier has to make both types equal.
