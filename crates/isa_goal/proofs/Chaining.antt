@@ -8,12 +8,12 @@ use Rattle.isa_terms.specs.declared.inst.TypeEntry.{TypeEntry}
 use Rattle.isa_terms.specs.declared.inst.TermEntry.{TermEntry}
 use Rattle.isa_terms.proofs.Bare.{type_at_bare}
 use Rattle.isa_terms.proofs.Equal.{ty_decides}
-use Rattle.isa_conversion.specs.Instances.{IsKept, followed_by, Each}
-use Rattle.isa_conversion.proofs.Typed.{type_of_typed, typed_of_type}
-use Rattle.isa_conversion.proofs.Instances.{inst_typed, inst_bare_same, inst_norm_typed}
-use Rattle.isa_conversion.proofs.Normal.{norm_normal}
+use Rattle.isa_terms.specs.Instances.{IsKept, followed_by, Each}
+use Rattle.isa_terms.proofs.Typed.{type_of_typed, typed_of_type}
+use Rattle.isa_terms.proofs.Instances.{inst_typed, inst_bare_same, inst_norm_typed}
+use Rattle.isa_terms.proofs.NormalForms.{norm_normal}
 use Rattle.isa_terms.specs.Normal.{IsNormal}
-use Rattle.isa_conversion.proofs.Laws.{instances_compose_law}
+use Rattle.isa_terms.proofs.ConversionLaws.{instances_compose_law}
 use Rattle.isa_kernel.specs.Logic.{prop, IsProposition}
 use Rattle.isa_kernel.specs.Derivation.{Member, Derives}
 use Rattle.isa_kernel.specs.Inferences.{keeps, typed_as}

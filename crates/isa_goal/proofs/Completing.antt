@@ -13,9 +13,9 @@ use Rattle.isa_terms.specs.Instance.{Instance, instance_of, find_term, inst_ty}
 use Rattle.isa_terms.specs.declared.inst.TermEntry.{TermEntry}
 use Rattle.isa_terms.proofs.Bare.{tm_decides, type_at_bare}
 use Rattle.isa_terms.proofs.Equal.{ty_decides}
-use Rattle.isa_conversion.proofs.Typed.{Typed, TUnknown, TBound, type_of_typed}
-use Rattle.isa_conversion.proofs.Normal.{apply_head}
-use Rattle.isa_conversion.proofs.Instances.{inst_norm_typed}
+use Rattle.isa_terms.proofs.Typed.{Typed, TUnknown, TBound, type_of_typed}
+use Rattle.isa_terms.proofs.NormalForms.{apply_head}
+use Rattle.isa_terms.proofs.Instances.{inst_norm_typed}
 use Rattle.isa_kernel.specs.Forms.{app_parts}
 use Rattle.isa_kernel.specs.Inferences.{has_type, typed_as, keeps}
 use Rattle.isa_kernel.proofs.Preserved.{app_typed}

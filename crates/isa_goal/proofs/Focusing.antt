@@ -6,7 +6,7 @@ use Rattle.isa_terms.specs.Terms.{Tm}
 use Rattle.isa_kernel.specs.Logic.{prop, IsProposition}
 use Rattle.isa_kernel.specs.Theorem.{Theorem}
 use Rattle.isa_kernel.specs.declared.inference.InferenceError.{InferenceError}
-use Rattle.isa_conversion.proofs.Typed.{typed_of_type}
+use Rattle.isa_terms.proofs.Typed.{typed_of_type}
 use Rattle.isa_subgoal.specs.Premises.{implies, leading, rule_of}
 use Rattle.isa_subgoal.specs.Rules.{Rotates}
 use Rattle.isa_subgoal.proofs.Deriving.{ArePropositions, implies_append, implies_typed, derived_propositions}

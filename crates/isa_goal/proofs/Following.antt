@@ -8,12 +8,12 @@ use Rattle.isa_kernel.specs.Axioms.{propositions}
 use Rattle.isa_kernel.specs.Derivation.{Member, Derives}
 use Rattle.isa_kernel.specs.Theorem.{Theorem, IsDerived}
 use Rattle.isa_kernel.specs.Inferences.{keeps}
-use Rattle.isa_conversion.proofs.Functions.{bind_some, cond_some}
+use Rattle.isa_terms.proofs.Functions.{bind_some, cond_some}
 use Rattle.isa_kernel.proofs.Members.{bares, Member-left, Member-right}
 use Rattle.isa_subgoal.proofs.Consequences.{From, from_all, under, itself, each_of, of_each, chain, map_member}
 use Rattle.isa_subgoal.proofs.Instancing.{from_instance, empty_instance}
 use Rattle.isa_goal.specs.Goals.{Goals, IsStanding, around, refined}
-use Rattle.isa_conversion.specs.Instances.{Each}
+use Rattle.isa_terms.specs.Instances.{Each}
 use Rattle.isa_subgoal.specs.Premises.{rule_form}
 use Rattle.isa_goal.specs.Follows.{Follows, Reduces, instanced, IsNormalState}
 use Rattle.isa_subgoal.proofs.Deriving.{ArePropositions, propositions_append, propositions_left, propositions_right, propositions_bare, propositions_member, derive_more, derive_assume}

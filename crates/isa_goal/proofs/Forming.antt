@@ -9,7 +9,7 @@ use Rattle.isa_terms.specs.declared.inst.TermEntry.{TermEntry}
 use Rattle.isa_goal.specs.Goals.{Goals, IsStanding}
 use Rattle.isa_goal.specs.Names.{next_type_number, next_number, type_entries, entries, set_types, set_terms, type_unknowns_in, type_unknowns_of, unknowns_in, unknowns_of, type_naming, term_naming, naming, normalised, reshaped, canon}
 use Rattle.isa_subgoal.specs.Shape.{is_in_form, shaped}
-use Rattle.isa_conversion.specs.Instances.{Each}
+use Rattle.isa_terms.specs.Instances.{Each}
 use Rattle.isa_goal.specs.Follows.{IsNormalState}
 use Rattle.isa_goal.specs.Canonical.{IsFormedState}
 use Rattle.isa_subgoal.proofs.Deriving.{ArePropositions, derived_propositions}

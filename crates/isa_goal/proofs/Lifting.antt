@@ -10,7 +10,7 @@ use Rattle.isa_kernel.specs.Logic.{prop, IsProposition}
 use Rattle.isa_kernel.specs.Theorem.{Theorem, IsDerived}
 use Rattle.isa_kernel.specs.Inferences.{keeps, instantiated}
 use Rattle.isa_kernel.proofs.Instances.{instantiated_sound}
-use Rattle.isa_conversion.proofs.Typed.{typed_of_type}
+use Rattle.isa_terms.proofs.Typed.{typed_of_type}
 use Rattle.isa_goal.specs.Goals.{Goals, IsStanding, around}
 use Rattle.isa_subgoal.specs.Premises.{implies, premises, conclusion, rule_form, rule_of}
 use Rattle.isa_goal.specs.Names.{unknowns_in, set_terms}

@@ -14,7 +14,7 @@ use Rattle.isa_terms.proofs.Bare.{tm_decides}
 use Rattle.isa_terms.proofs.Equal.{ty_decides}
 use Rattle.isa_kernel.specs.Forms.{app_parts}
 use Rattle.isa_kernel.specs.Inferences.{has_type, keeps}
-use Rattle.isa_conversion.proofs.Functions.{bind_some, cond_some}
+use Rattle.isa_terms.proofs.Functions.{bind_some, cond_some}
 use Rattle.isa_kernel.proofs.Parts.{app_made}
 use Rattle.isa_goal.specs.Matching.{is_ground, are_ground, is_first_order, matched_unknown, matched}
 use Rattle.isa_subgoal.proofs.Instancing.{empty_ty}

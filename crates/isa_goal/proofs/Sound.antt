@@ -6,7 +6,7 @@ use Rattle.isa_terms.specs.Instance.{Instance}
 use Rattle.isa_kernel.specs.Axioms.{propositions}
 use Rattle.isa_kernel.specs.Theorem.{Theorem, IsDerived, AreDerived}
 use Rattle.isa_kernel.proofs.Members.{bases_left, bases_right}
-use Rattle.isa_conversion.proofs.Functions.{bind_some}
+use Rattle.isa_terms.proofs.Functions.{bind_some}
 use Rattle.isa_goal.specs.Goals.{Goals, IsStanding, around, refined}
 use Rattle.isa_subgoal.specs.Premises.{premises, conclusion}
 use Rattle.isa_goal.specs.Names.{canon}

@@ -5,7 +5,7 @@ use Rattle.isa_terms.specs.Sets.{without}
 use Rattle.isa_kernel.specs.Logic.{prop, imp}
 use Rattle.isa_kernel.specs.Theorem.{Theorem}
 use Rattle.isa_kernel.specs.Inferences.{has_type, assumed, implies_introduced}
-use Rattle.isa_conversion.proofs.Functions.{cond_some}
+use Rattle.isa_terms.proofs.Functions.{cond_some}
 use Rattle.isa_goal.specs.Goals.{Proves}
 use Rattle.isa_subgoal.proofs.Deriving.{tm_eq_same}
 

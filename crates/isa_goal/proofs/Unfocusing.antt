@@ -8,9 +8,9 @@ use Rattle.isa_kernel.specs.Logic.{imp, IsProposition}
 use Rattle.isa_kernel.specs.Forms.{imp_parts}
 use Rattle.isa_kernel.specs.Derivation.{Member, Within}
 use Rattle.isa_kernel.proofs.Members.{bares}
-use Rattle.isa_conversion.proofs.Functions.{bind_some}
+use Rattle.isa_terms.proofs.Functions.{bind_some}
 use Rattle.isa_goal.specs.Goals.{Goals, IsStanding, around}
-use Rattle.isa_conversion.specs.Instances.{Each}
+use Rattle.isa_terms.specs.Instances.{Each}
 use Rattle.isa_subgoal.specs.Premises.{implies, leading}
 use Rattle.isa_goal.specs.Follows.{Follows, Reduces}
 use Rattle.isa_goal.specs.Names.{canon}

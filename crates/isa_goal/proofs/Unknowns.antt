@@ -13,7 +13,7 @@ use Rattle.isa_terms.specs.declared.inst.TermEntry.{TermEntry}
 use Rattle.isa_kernel.specs.Logic.{prop, imp}
 use Rattle.isa_kernel.specs.Forms.{predicate_of, imp_parts}
 use Rattle.isa_kernel.proofs.Parts.{imp_made}
-use Rattle.isa_conversion.proofs.Normal.{norm_same}
+use Rattle.isa_terms.proofs.NormalForms.{norm_same}
 use Rattle.isa_subgoal.specs.Premises.{conclusion}
 use Rattle.isa_goal.specs.Matching.{is_ground, are_ground}
 use Rattle.isa_subgoal.specs.Shape.{is_quantified, is_in_form}

@@ -12,7 +12,7 @@ use Rattle.isa_terms.specs.declared.inst.TypeEntry.{TypeEntry}
 use Rattle.isa_terms.specs.declared.inst.TermEntry.{TermEntry}
 use Rattle.isa_terms.proofs.Bare.{tm_decides}
 use Rattle.isa_terms.proofs.Equal.{ty_decides}
-use Rattle.isa_conversion.specs.Instances.{Each}
+use Rattle.isa_terms.specs.Instances.{Each}
 use Rattle.isa_subgoal.proofs.Deriving.{ArePropositions, derived_propositions}
 use Rattle.isa_subgoal.proofs.Shaping.{shaped_normal}
 use Rattle.isa_subgoal.specs.Shape.{shaped}

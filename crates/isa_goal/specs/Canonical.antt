@@ -4,7 +4,7 @@ use Rattle.std.specs.Prelude.{◌≡◌, Bool, true, ◌&&◌, nat_eq}
 use Rattle.isa_terms.specs.Types.{Ty, Tys, TyCon, TyFixed, TyUnknown, NoTys, MoreTys}
 use Rattle.isa_terms.specs.Terms.{Tm, Const, Free, Unknown, Bound, Abs, App}
 use Rattle.isa_goal.specs.Goals.{Goals}
-use Rattle.isa_conversion.specs.Instances.{Each}
+use Rattle.isa_terms.specs.Instances.{Each}
 use Rattle.isa_subgoal.specs.Shape.{is_in_form}
 
 -- a state each of whose subgoals is in the form

@@ -10,7 +10,7 @@ use Rattle.isa_kernel.specs.Theorem.{Theorem, IsDerived}
 use Rattle.isa_kernel.specs.Inferences.{keeps}
 use Rattle.isa_kernel.specs.declared.inference.InferenceError.{InferenceError}
 use Rattle.isa_goal.specs.Goals.{Goals, IsStanding, refined}
-use Rattle.isa_conversion.specs.Instances.{Each}
+use Rattle.isa_terms.specs.Instances.{Each}
 use Rattle.isa_subgoal.specs.Premises.{implies}
 
 -- by the axioms `ax`: the goal of t is an instance of that of s, and each subgoal of s, so instantiated, follows from those of t

@@ -10,8 +10,8 @@ use Rattle.isa_terms.specs.Norm.{norm}
 use Rattle.isa_terms.specs.Typing.{HasType}
 use Rattle.isa_kernel.specs.Logic.{eq}
 use Rattle.isa_kernel.specs.Derivation.{Tree, Reflexive, Symmetric, Transitive, Combination, Abstraction, Beta, Eta}
-use Rattle.isa_conversion.proofs.Typed.{Typed, TAbs, TApp, type_of_typed, typed_of_type}
-use Rattle.isa_conversion.proofs.Conv.{Conv, CRefl, CSym, CTrans, CApp, CAbs, CBeta, CEta, norm_conv}
+use Rattle.isa_terms.proofs.Typed.{Typed, TAbs, TApp, type_of_typed, typed_of_type}
+use Rattle.isa_terms.proofs.Conv.{Conv, CRefl, CSym, CTrans, CApp, CAbs, CBeta, CEta, norm_conv}
 use Rattle.isa_kernel.proofs.Fill.{Var, types, fill, fill_put, fill_raise, fill_typed, bare_typed, raise_closed, close_fill, longest, longest_of, occurs_longer, new_longer}
 
 -- the term with variables for its binders, without names

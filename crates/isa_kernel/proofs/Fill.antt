@@ -9,7 +9,7 @@ use Rattle.isa_terms.specs.Equal.{name_eq, ty_eq}
 use Rattle.isa_terms.specs.Replace.{raise, put}
 use Rattle.isa_terms.specs.Binding.{occurs, close_at}
 use Rattle.isa_terms.proofs.Equal.{ty_decides}
-use Rattle.isa_conversion.proofs.Typed.{Typed, TConst, TFree, TUnknown, TBound, TAbs, TApp}
+use Rattle.isa_terms.proofs.Typed.{Typed, TConst, TFree, TUnknown, TBound, TAbs, TApp}
 
 abbrev pub Var : Type 0
 Var = List ℕ × Ty

@@ -14,13 +14,13 @@ use Rattle.isa_kernel.specs.Derivation as D
 use Rattle.isa_kernel.specs.Derivation.{Member, Within, Tree, EqualElim, IsKept, Derives}
 use Rattle.isa_kernel.specs.Theorem.{Theorem, IsDerived}
 use Rattle.isa_kernel.specs.Inferences.{has_type, keeps, instantiated}
-use Rattle.isa_conversion.proofs.Functions.{cond_some}
-use Rattle.isa_kernel.specs.declared.axioms.NamedProp.{NamedProp}
+use Rattle.isa_terms.proofs.Functions.{cond_some}
+use Rattle.isa_kernel.specs.declared.base.BaseEntry.{BaseEntry}
 use Rattle.isa_kernel.specs.Axioms.{propositions}
 use Rattle.isa_kernel.proofs.Members.{bares}
 use Rattle.isa_kernel.proofs.Rules.{tree_more, IsDerivedOf}
 use Rattle.isa_kernel.proofs.Sound.{has_type_is}
-use Rattle.isa_conversion.proofs.Typed.{type_of_typed}
+use Rattle.isa_terms.proofs.Typed.{type_of_typed}
 use Rattle.isa_kernel.proofs.Closed.{norm_tree}
 use Rattle.isa_kernel.proofs.Preserved.{derived_typed}
 
@@ -98,7 +98,7 @@ kept es (f ∷ fs) e =
     let p = and_true (has_type f.term (inst_ty es f.typ)) (keeps es fs) e in
     (type_at_bare [] f.term ∙ has_type_is f.term (inst_ty es f.typ) p.0, kept es fs p.1)
 
-pub instance_derived : (es : List TypeEntry) (fs : List TermEntry) (p : Tm) (B : List NamedProp) (H : List Tm) → keeps es fs ≡ true → in_tms es fs H ≡ false → IsDerivedOf B H p → IsDerivedOf B H (norm (inst_tm es fs p))
+pub instance_derived : (es : List TypeEntry) (fs : List TermEntry) (p : Tm) (B : List BaseEntry) (H : List Tm) → keeps es fs ≡ true → in_tms es fs H ≡ false → IsDerivedOf B H p → IsDerivedOf B H (norm (inst_tm es fs p))
 instance_derived es fs p B H k n d =
     let q : Tm = inst_tm es fs p in
     let free : in_tms es (bare_entries fs) d.used ≡ false = in_tms_false es (bare_entries fs) d.used (λ t m. in_Member es fs H t n (d.within t m)) in

@@ -8,7 +8,7 @@ use Rattle.isa_terms.specs.Terms.{Tm, Const, Free, Unknown, Bound, Abs, App}
 use Rattle.isa_terms.specs.Equal.{name_eq, ty_eq}
 use Rattle.isa_terms.specs.Typing.{function_parts, function_of}
 use Rattle.isa_terms.proofs.Equal.{ty_decides}
-use Rattle.isa_conversion.proofs.Functions.{cond_some, bind_some, function_made}
+use Rattle.isa_terms.proofs.Functions.{cond_some, bind_some, function_made}
 use Rattle.isa_kernel.specs.Logic.{prop, imp, eq, all}
 use Rattle.isa_kernel.specs.Forms.{app_parts, abs_parts, is_last, const_type, free_parts, predicate_of, relation_of, binary, eq_parts, imp_parts, all_parts}
 

@@ -14,7 +14,7 @@ use Rattle.isa_terms.proofs.Equal.{ty_decides}
 use Rattle.isa_terms.specs.Typing.{HasType}
 use Rattle.isa_kernel.specs.Logic.{prop, imp, eq, all, IsProposition}
 use Rattle.isa_kernel.specs.Derivation.{Tree, Axiom, Assumption, ImpliesIntro, ImpliesElim, ForallIntro, ForallElim, Reflexive, Symmetric, Transitive, Combination, Abstraction, Beta, Eta, EqualIntro, EqualElim, Instance, Generalisation, IsKept}
-use Rattle.isa_conversion.proofs.Typed.{Typed, TConst, TFree, TUnknown, TBound, TAbs, TApp, type_of_typed, typed_of_type, put_typed, raise_typed}
+use Rattle.isa_terms.proofs.Typed.{Typed, TConst, TFree, TUnknown, TBound, TAbs, TApp, type_of_typed, typed_of_type, put_typed, raise_typed}
 use Rattle.isa_kernel.proofs.Fill.{raise_closed}
 
 -- ---- closing keeps types

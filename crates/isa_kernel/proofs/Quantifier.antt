@@ -6,8 +6,8 @@ use Rattle.isa_terms.specs.Terms.{Tm, Const, Free, Unknown, Bound, Abs, App, bar
 use Rattle.isa_terms.specs.Typing.{function_of, HasType}
 use Rattle.isa_terms.specs.Replace.{raise, put, replace}
 use Rattle.isa_terms.proofs.Bare.{put_bare, type_at_bare}
-use Rattle.isa_conversion.proofs.Functions.{bind_some}
-use Rattle.isa_conversion.proofs.Typed.{Typed, TConst, TFree, TUnknown, TBound, TAbs, TApp, typed_of_type, type_of_typed}
+use Rattle.isa_terms.proofs.Functions.{bind_some}
+use Rattle.isa_terms.proofs.Typed.{Typed, TConst, TFree, TUnknown, TBound, TAbs, TApp, typed_of_type, type_of_typed}
 use Rattle.isa_kernel.specs.Logic.{prop}
 use Rattle.isa_kernel.specs.Forms.{app_parts, const_type, predicate_of, quantifier_parts, at}
 use Rattle.isa_kernel.specs.Derivation.{Tree, Reflexive, Symmetric, Combination, Eta, EqualElim, ForallElim}

@@ -12,7 +12,7 @@ use Rattle.isa_kernel.specs.Logic.{prop}
 use Rattle.isa_kernel.specs.Forms.{app_parts, abs_parts, is_last, imp_parts, eq_parts, quantifier_parts, free_parts}
 use Rattle.isa_kernel.specs.Theorem.{Theorem, IsDerived}
 use Rattle.isa_kernel.specs.Inferences.{typed_as, has_type, well_typed, assumed, implies_introduced, implies_eliminated, forall_introduced, forall_eliminated, reflexive_at, turned, chained, combined, abstracted, contracted, shortened, equal_introduced, equal_eliminated}
-use Rattle.isa_conversion.proofs.Functions.{cond_some, bind_some, function_made}
+use Rattle.isa_terms.proofs.Functions.{cond_some, bind_some, function_made}
 use Rattle.isa_kernel.proofs.Parts.{app_made, abs_made, last_made}
 use Rattle.isa_kernel.proofs.Rules.{assumed_derived, implies_introduced_derived, implies_eliminated_derived, forall_introduced_derived, forall_eliminated_derived, reflexive_derived, turned_derived, chained_derived, combined_derived, abstracted_derived, contracted_derived, shortened_derived, equal_introduced_derived, equal_eliminated_derived}
 

@@ -8,7 +8,7 @@ use Rattle.isa_terms.specs.Equal.{name_eq, ty_eq}
 use Rattle.isa_terms.specs.Instance.{find_type, inst_ty, inst_tys}
 use Rattle.isa_terms.specs.declared.inst.TypeEntry.{TypeEntry}
 use Rattle.isa_terms.proofs.Equal.{ty_decides}
-use Rattle.isa_conversion.proofs.Functions.{cond_some, bind_some}
+use Rattle.isa_terms.proofs.Functions.{cond_some, bind_some}
 use Rattle.isa_kernel.specs.TypeInstances.{bound_to, matched, all_matched, is_instance}
 
 abbrev pub entry : List ℕ → ℕ → Ty → TypeEntry

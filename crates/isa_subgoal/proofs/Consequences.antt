@@ -4,7 +4,7 @@ use Rattle.isa_terms.specs.Terms.{Tm, bare}
 use Rattle.isa_terms.proofs.Bare.{type_at_bare}
 use Rattle.isa_kernel.specs.Derivation.{Member, Within, Derives}
 use Rattle.isa_kernel.proofs.Members.{bares}
-use Rattle.isa_conversion.specs.Instances.{Each}
+use Rattle.isa_terms.specs.Instances.{Each}
 use Rattle.isa_subgoal.specs.Premises.{implies}
 use Rattle.isa_subgoal.proofs.Deriving.{ArePropositions, propositions_bare, propositions_member, implies_bare, derive_more, derive_assume, derive_intros, derive_elims}
 

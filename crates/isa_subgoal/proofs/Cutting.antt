@@ -5,13 +5,13 @@ use Rattle.isa_terms.specs.Terms.{Tm}
 use Rattle.isa_terms.specs.Equal.{tm_eq}
 use Rattle.isa_terms.specs.Sets.{has, missing, joined, without}
 use Rattle.isa_kernel.specs.Logic.{imp}
-use Rattle.isa_kernel.specs.declared.axioms.NamedProp.{NamedProp}
+use Rattle.isa_kernel.specs.declared.base.BaseEntry.{BaseEntry}
 use Rattle.isa_kernel.specs.Axioms.{joined_bases}
 use Rattle.isa_kernel.specs.Derivation.{Member, Within}
 use Rattle.isa_kernel.specs.Theorem.{Theorem, IsDerived}
 use Rattle.isa_kernel.specs.Inferences.{assumed, implies_introduced, implies_eliminated}
 use Rattle.isa_kernel.proofs.Sound.{assumed_sound, implies_introduced_sound, implies_eliminated_sound}
-use Rattle.isa_conversion.proofs.Functions.{bind_some}
+use Rattle.isa_terms.proofs.Functions.{bind_some}
 use Rattle.isa_kernel.proofs.Members.{Member-left, Member-right, Within-append, Member-without}
 use Rattle.isa_subgoal.specs.Premises.{implies}
 use Rattle.isa_subgoal.specs.Steps.{eliminated, introduced, cut, met_under, raised}
@@ -26,7 +26,7 @@ abbrev pub fewer_hyps : List Tm → List Tm → List Tm
 fewer_hyps [] H = H
 fewer_hyps (p ∷ ps) H = without p (fewer_hyps ps H)
 
-pub eliminated_is : (ps H : List Tm) (B : List NamedProp) (q : Tm) → ArePropositions ps → eliminated ps (record { hyps = H; prop = implies ps q; base = B }) ≡ Some (record { hyps = more_hyps H ps; prop = q; base = B })
+pub eliminated_is : (ps H : List Tm) (B : List BaseEntry) (q : Tm) → ArePropositions ps → eliminated ps (record { hyps = H; prop = implies ps q; base = B }) ≡ Some (record { hyps = more_hyps H ps; prop = q; base = B })
 unfolding eliminated
 eliminated_is [] H B q w = refl
 eliminated_is (p ∷ ps) H B q w =
@@ -36,7 +36,7 @@ eliminated_is (p ∷ ps) H B q w =
     ∙ ap (λ C. eliminated ps (record { hyps = joined H (p ∷ []); prop = implies ps q; base = C })) (append-nil B)
     ∙ eliminated_is ps (joined H (p ∷ [])) B q w.1
 
-pub introduced_is : (ps H : List Tm) (B : List NamedProp) (q : Tm) → ArePropositions ps → introduced ps (record { hyps = H; prop = q; base = B }) ≡ Some (record { hyps = fewer_hyps ps H; prop = implies ps q; base = B })
+pub introduced_is : (ps H : List Tm) (B : List BaseEntry) (q : Tm) → ArePropositions ps → introduced ps (record { hyps = H; prop = q; base = B }) ≡ Some (record { hyps = fewer_hyps ps H; prop = implies ps q; base = B })
 unfolding introduced
 introduced_is [] H B q w = refl
 introduced_is (p ∷ ps) H B q w =
@@ -85,7 +85,7 @@ pub two_none : (ps qs H : List Tm) → Within H (ps ++ qs) → fewer_hyps ps (fe
 two_none ps qs H w = fewer_append ps qs H ∙ fewer_none (ps ++ qs) H w
 
 -- a rule's premises come in the place of the subgoal that its conclusion equals
-pub cut_is : (us bs vs : List Tm) (B C : List NamedProp) (a r c : Tm) → ArePropositions us → ArePropositions bs → tm_eq a r ≡ true →
+pub cut_is : (us bs vs : List Tm) (B C : List BaseEntry) (a r c : Tm) → ArePropositions us → ArePropositions bs → tm_eq a r ≡ true →
     cut us bs (record { hyps = []; prop = implies (us ++ (a ∷ vs)) c; base = B }) (record { hyps = []; prop = implies bs r; base = C })
     ≡ Some (record { hyps = []; prop = implies (us ++ (bs ++ vs)) c; base = joined_bases B C })
 unfolding cut
@@ -110,7 +110,7 @@ abbrev pub met_hyps : List Tm → List Tm → List Tm → List Tm
 met_hyps H hs [] = H
 met_hyps H hs (p ∷ ps) = met_hyps (joined H (more_hyps (implies hs p ∷ []) hs)) hs ps
 
-pub met_is : (hs ps H : List Tm) (B : List NamedProp) (q : Tm) → ArePropositions hs → ArePropositions ps → met_under hs ps (record { hyps = H; prop = implies ps q; base = B }) ≡ Some (record { hyps = met_hyps H hs ps; prop = q; base = B })
+pub met_is : (hs ps H : List Tm) (B : List BaseEntry) (q : Tm) → ArePropositions hs → ArePropositions ps → met_under hs ps (record { hyps = H; prop = implies ps q; base = B }) ≡ Some (record { hyps = met_hyps H hs ps; prop = q; base = B })
 unfolding met_under
 met_is hs [] H B q w v = refl
 met_is hs (p ∷ ps) H B q w v =
@@ -134,7 +134,7 @@ met_within H hs (p ∷ ps) vs f g h =
     only t (inr m) = absurd m
 
 -- the premises and the conclusion of a rule come under the assumptions
-pub raised_is : (hs ps : List Tm) (B : List NamedProp) (q : Tm) → ArePropositions hs → ArePropositions ps → raised hs ps (record { hyps = []; prop = implies ps q; base = B }) ≡ Some (record { hyps = []; prop = implies (map (implies hs) ps) (implies hs q); base = B })
+pub raised_is : (hs ps : List Tm) (B : List BaseEntry) (q : Tm) → ArePropositions hs → ArePropositions ps → raised hs ps (record { hyps = []; prop = implies ps q; base = B }) ≡ Some (record { hyps = []; prop = implies (map (implies hs) ps) (implies hs q); base = B })
 unfolding raised
 raised_is hs ps B q w v =
     let K : List Tm = met_hyps [] hs ps in

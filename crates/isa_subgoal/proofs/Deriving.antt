@@ -11,9 +11,9 @@ use Rattle.isa_kernel.specs.Derivation.{Member, Within, Assumption, ImpliesIntro
 use Rattle.isa_kernel.specs.Inferences.{has_type, typed_as}
 use Rattle.isa_kernel.proofs.Members.{bares, Within-append, Member-without}
 use Rattle.isa_kernel.proofs.Rules.{tree_more}
-use Rattle.isa_conversion.proofs.Typed.{Typed, TConst, TApp, type_of_typed, typed_of_type}
+use Rattle.isa_terms.proofs.Typed.{Typed, TConst, TApp, type_of_typed, typed_of_type}
 use Rattle.isa_kernel.proofs.Preserved.{derived_typed, imp_both}
-use Rattle.isa_conversion.specs.Instances.{Each}
+use Rattle.isa_terms.specs.Instances.{Each}
 use Rattle.isa_subgoal.specs.Premises.{implies}
 
 pub tm_eq_same : (t : Tm) → tm_eq t t ≡ true

@@ -10,10 +10,10 @@ use Rattle.isa_kernel.specs.Logic.{prop, IsProposition}
 use Rattle.isa_kernel.specs.Forms.{imp_parts, quantifier_parts}
 use Rattle.isa_kernel.proofs.Quantifier.{quantifier}
 use Rattle.isa_kernel.proofs.Preserved.{abs_typed}
-use Rattle.isa_conversion.proofs.Typed.{Typed, typed_of_type}
-use Rattle.isa_conversion.proofs.Conv.{right_typed}
-use Rattle.isa_conversion.proofs.Normal.{norm_normal, norm_same, raise_normal}
-use Rattle.isa_conversion.specs.Instances.{Each}
+use Rattle.isa_terms.proofs.Typed.{Typed, typed_of_type}
+use Rattle.isa_terms.proofs.Conv.{right_typed}
+use Rattle.isa_terms.proofs.NormalForms.{norm_normal, norm_same, raise_normal}
+use Rattle.isa_terms.specs.Instances.{Each}
 use Rattle.isa_subgoal.specs.Premises.{implies, conclusion}
 use Rattle.isa_subgoal.specs.Shape.{is_quantified, is_in_form, over_name, over_names, spelled, gathered, moved, shaped}
 use Rattle.isa_subgoal.proofs.Spelling.{implication, imp_front, all_front, premise_typed, body_typed, all_constant, spelled_conv, AllTyped, all_raised, all_more, gathered_typed}

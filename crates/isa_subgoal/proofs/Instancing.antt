@@ -7,7 +7,7 @@ use Rattle.isa_terms.proofs.Bare.{type_at_bare}
 use Rattle.isa_terms.specs.Norm.{norm}
 use Rattle.isa_terms.specs.Normal.{IsNormal}
 use Rattle.isa_kernel.specs.Logic.{prop, imp, eq}
-use Rattle.isa_kernel.specs.declared.axioms.NamedProp.{NamedProp}
+use Rattle.isa_kernel.specs.declared.base.BaseEntry.{BaseEntry}
 use Rattle.isa_kernel.specs.Derivation.{Member, Within, Tree, EqualElim, Derives}
 use Rattle.isa_kernel.specs.Derivation as derivation
 use Rattle.isa_kernel.specs.Inferences.{keeps, instantiated}
@@ -15,9 +15,9 @@ use Rattle.isa_kernel.proofs.Instances.{bare_entries, inst_bare, kept, in_tms_fa
 use Rattle.isa_kernel.proofs.Closed.{norm_tree}
 use Rattle.isa_kernel.proofs.Rules.{tree_more}
 use Rattle.isa_kernel.proofs.Preserved.{derived_typed}
-use Rattle.isa_conversion.proofs.Typed.{type_of_typed}
+use Rattle.isa_terms.proofs.Typed.{type_of_typed}
 use Rattle.isa_terms.specs.Typing.{HasType}
-use Rattle.isa_conversion.proofs.Normal.{norm_same}
+use Rattle.isa_terms.proofs.NormalForms.{norm_same}
 use Rattle.isa_subgoal.specs.Premises.{implies}
 use Rattle.isa_subgoal.proofs.Consequences.{From}
 
@@ -26,7 +26,7 @@ pub instance_implies : (n : Instance) (ps : List Tm) (c : Tm) → instance_of n 
 instance_implies n [] c = refl
 instance_implies n (p ∷ ps) c = ap (imp (instance_of n p)) (instance_implies n ps c)
 
-pub instantiated_is : (n : Instance) (p : Tm) (B : List NamedProp) → keeps n.types n.terms ≡ true → instantiated n (record { hyps = []; prop = p; base = B }) ≡ Some (record { hyps = []; prop = instance_of n p; base = B })
+pub instantiated_is : (n : Instance) (p : Tm) (B : List BaseEntry) → keeps n.types n.terms ≡ true → instantiated n (record { hyps = []; prop = p; base = B }) ≡ Some (record { hyps = []; prop = instance_of n p; base = B })
 instantiated_is n p B k = ap (λ b. cond (b && true) (Some (record { hyps = []; prop = instance_of n p; base = B })) None) k
 
 -- an instance of what is derived from no hypothesis

@@ -5,7 +5,7 @@ use Rattle.std.proofs.lemmas.Bool.Decides.{nat_tests}
 use Rattle.isa_terms.specs.Types.{Ty}
 use Rattle.isa_terms.specs.Terms.{Tm, Const, Free, Unknown, Bound, Abs, App}
 use Rattle.isa_terms.specs.Replace.{raise, put}
-use Rattle.isa_conversion.proofs.Typed.{Typed, TConst, TFree, TUnknown, TBound, TAbs, TApp}
+use Rattle.isa_terms.proofs.Typed.{Typed, TConst, TFree, TUnknown, TBound, TAbs, TApp}
 use Rattle.isa_kernel.proofs.Fill.{Var, types, filled, fill, fill_below, fill_above, fill_some, get_past, one_more}
 use Rattle.isa_kernel.proofs.Quantifier.{put_closed}
 use Rattle.isa_subgoal.specs.Reshaping.{opened}

@@ -21,7 +21,7 @@ use Rattle.isa_kernel.specs.Inferences.{Answers, implies_introduced, forall_intr
 use Rattle.isa_kernel.proofs.Members.{Member-without, occurs_in_false}
 use Rattle.isa_kernel.proofs.Fill.{Var, types, filled, fill, fill_typed, IsNew, close_fill, longer_name}
 use Rattle.isa_kernel.proofs.Quantifier.{quantifier}
-use Rattle.isa_conversion.proofs.Typed.{Typed, type_of_typed}
+use Rattle.isa_terms.proofs.Typed.{Typed, type_of_typed}
 use Rattle.isa_subgoal.specs.Premises.{implies}
 use Rattle.isa_subgoal.specs.Steps.{eliminated}
 use Rattle.isa_subgoal.specs.Shape.{gathered}

@@ -12,7 +12,7 @@ use Rattle.isa_terms.specs.Sets.{without}
 use Rattle.isa_terms.proofs.Bare.{tm_decides, type_at_bare}
 use Rattle.isa_kernel.specs.Logic.{prop, imp, IsProposition}
 use Rattle.isa_kernel.specs.Forms.{imp_parts, quantifier_parts}
-use Rattle.isa_kernel.specs.declared.axioms.NamedProp.{NamedProp}
+use Rattle.isa_kernel.specs.declared.base.BaseEntry.{BaseEntry}
 use Rattle.isa_kernel.specs.Derivation.{Derives}
 use Rattle.isa_kernel.specs.Theorem.{Theorem, IsDerived}
 use Rattle.isa_kernel.specs.Inferences.{assumed, implies_introduced, forall_introduced, forall_eliminated, instantiated}
@@ -20,13 +20,13 @@ use Rattle.isa_kernel.proofs.Sound.{assumed_sound, implies_introduced_sound, for
 use Rattle.isa_kernel.proofs.Instances.{instantiated_sound}
 use Rattle.isa_kernel.proofs.Fill.{fill}
 use Rattle.isa_kernel.proofs.Closed.{fill_none}
-use Rattle.isa_conversion.proofs.Functions.{bind_some}
-use Rattle.isa_conversion.proofs.Typed.{Typed, type_of_typed, typed_of_type}
-use Rattle.isa_conversion.proofs.Conv.{Conv, CSym, CTrans, right_typed, norm_conv}
-use Rattle.isa_conversion.proofs.Names.{same_conv}
-use Rattle.isa_conversion.proofs.Unique.{conv_norm}
-use Rattle.isa_conversion.proofs.Normal.{norm_same, norm_normal}
-use Rattle.isa_conversion.specs.Instances.{Each}
+use Rattle.isa_terms.proofs.Functions.{bind_some}
+use Rattle.isa_terms.proofs.Typed.{Typed, type_of_typed, typed_of_type}
+use Rattle.isa_terms.proofs.Conv.{Conv, CSym, CTrans, right_typed, norm_conv}
+use Rattle.isa_terms.proofs.FreeNames.{same_conv}
+use Rattle.isa_terms.proofs.Unique.{conv_norm}
+use Rattle.isa_terms.proofs.NormalForms.{norm_same, norm_normal}
+use Rattle.isa_terms.specs.Instances.{Each}
 use Rattle.isa_subgoal.specs.Premises.{implies}
 use Rattle.isa_subgoal.specs.Steps.{eliminated, cut}
 use Rattle.isa_subgoal.specs.Shape.{is_in_form, spelled, moved, shaped}
@@ -155,10 +155,10 @@ shaped_from t h n = go (is_in_form t)
         subst (λ q. Derives [] [] (App (App (Const (codes "Pure.imp") (function_of prop (function_of prop prop))) (bare (norm (moved t)))) q)) r.same (regaining_sound t _ r.found).derivation
 
 -- ---- all subgoals
-abbrev whole : List Tm → List Tm → List NamedProp → Tm → Theorem
+abbrev whole : List Tm → List Tm → List BaseEntry → Tm → Theorem
 whole us ts B g = record { hyps = []; prop = implies (us ++ ts) g; base = B }
 
-pub reshaped_by_is : (us ts : List Tm) (B : List NamedProp) (g : Tm) → ArePropositions us → ArePropositions ts → Each IsNormal ts → reshaped_by us ts (whole us ts B g) ≡ Some (whole us (map shaped ts) B g)
+pub reshaped_by_is : (us ts : List Tm) (B : List BaseEntry) (g : Tm) → ArePropositions us → ArePropositions ts → Each IsNormal ts → reshaped_by us ts (whole us ts B g) ≡ Some (whole us (map shaped ts) B g)
 unfolding reshaped_by
 reshaped_by_is us [] B g w v n = refl
 reshaped_by_is us (t ∷ ts) B g w v n =

@@ -10,9 +10,9 @@ use Rattle.isa_kernel.specs.Forms.{imp_parts, quantifier_parts}
 use Rattle.isa_kernel.proofs.Parts.{imp_made}
 use Rattle.isa_kernel.proofs.Quantifier.{quantifier, quantifier_made}
 use Rattle.isa_kernel.proofs.Preserved.{app_typed, const_typed, abs_typed, function_first, function_second}
-use Rattle.isa_conversion.proofs.Typed.{Typed, TConst, TBound, TAbs, TApp}
-use Rattle.isa_conversion.proofs.Conv.{Conv, CRefl, CSym, CTrans, CApp, CAbs, CEta}
-use Rattle.isa_conversion.proofs.Opening.{next_typed}
+use Rattle.isa_terms.proofs.Typed.{Typed, TConst, TBound, TAbs, TApp}
+use Rattle.isa_terms.proofs.Conv.{Conv, CRefl, CSym, CTrans, CApp, CAbs, CEta}
+use Rattle.isa_terms.proofs.Opening.{next_typed}
 use Rattle.isa_subgoal.specs.Premises.{implies}
 use Rattle.isa_subgoal.specs.Shape.{over_name, over_names, spelled, gathered}
 

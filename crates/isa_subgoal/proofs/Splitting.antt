@@ -7,7 +7,7 @@ use Rattle.isa_kernel.specs.Logic.{imp}
 use Rattle.isa_kernel.specs.Forms.{imp_parts}
 use Rattle.isa_kernel.specs.Derivation.{Derives}
 use Rattle.isa_kernel.specs.Theorem.{Theorem, IsDerived}
-use Rattle.isa_conversion.proofs.Functions.{bind_some}
+use Rattle.isa_terms.proofs.Functions.{bind_some}
 use Rattle.isa_kernel.proofs.Parts.{imp_made}
 use Rattle.std.proofs.Common.{length}
 use Rattle.isa_subgoal.specs.Premises.{implies, premises_of, rule_form}

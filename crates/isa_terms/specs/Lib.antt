@@ -24,3 +24,7 @@ pub mod Pattern
 pub mod Facts
 pub mod Rows
 pub mod Laws
+pub mod Typed
+pub mod Conversion
+pub mod Instances
+pub mod ConversionLaws

@@ -27,7 +27,7 @@ pub use inst::{
     TermEntry, TypeEntry, find_term, find_type, in_some, in_term, in_typ, inst_term, inst_typ,
 };
 pub use instance::{Inst, instantiate};
-pub use laws::term_order_is_total;
+pub use laws::{types_are_given, normal_forms_are_normal, normal_terms_stay, normalising_is_idempotent, terms_convert_to_normal_forms, normal_forms_are_unique, application_is_replacement, instances_keep_types, instances_keep_conversion, instances_of_normal_forms, instances_compose_by_parts, instances_compose, term_order_is_total};
 pub use lists::{Names, TermEntries, Text, TypeEntries};
 pub use measure::size;
 pub use name::Name;

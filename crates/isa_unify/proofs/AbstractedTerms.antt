@@ -8,15 +8,15 @@ use Rattle.isa_terms.specs.Typing.{function_of}
 use Rattle.isa_terms.specs.Norm.{eta}
 use Rattle.isa_terms.specs.Instance.{find_term, inst_ty, inst_tm}
 use Rattle.isa_terms.specs.declared.inst.TermEntry.{TermEntry}
-use Rattle.isa_conversion.specs.Typed.{Typed, TUnknown, TBound}
-use Rattle.isa_conversion.specs.Conversion.{Conv, CSym, CTrans}
-use Rattle.isa_conversion.specs.Instances.{IsKept}
-use Rattle.isa_conversion.proofs.Typed.{type_of_typed}
-use Rattle.isa_conversion.proofs.Conv.{right_typed}
-use Rattle.isa_conversion.proofs.Unique.{app_typed, domain_same, range_same}
-use Rattle.isa_conversion.proofs.Abstracting as abstracting
-use Rattle.isa_conversion.proofs.Abstracting.{AreDistinct, Among, AreKnown, arrow, tower, tower_typed, tower_closed, tower_applied, tower_moved, eta_plain, eta_plain_conv, eta_moved_conv, on_bounds_typed, on_bounds_conv}
-use Rattle.isa_conversion.proofs.Pruning.{IsWithin, PairTypes}
+use Rattle.isa_terms.specs.Typed.{Typed, TUnknown, TBound}
+use Rattle.isa_terms.specs.Conversion.{Conv, CSym, CTrans}
+use Rattle.isa_terms.specs.Instances.{IsKept}
+use Rattle.isa_terms.proofs.Typed.{type_of_typed}
+use Rattle.isa_terms.proofs.Conv.{right_typed}
+use Rattle.isa_terms.proofs.Unique.{app_typed, domain_same, range_same}
+use Rattle.isa_terms.proofs.Abstracting as abstracting
+use Rattle.isa_terms.proofs.Abstracting.{AreDistinct, Among, AreKnown, arrow, tower, tower_typed, tower_closed, tower_applied, tower_moved, eta_plain, eta_plain_conv, eta_moved_conv, on_bounds_typed, on_bounds_conv}
+use Rattle.isa_terms.proofs.Pruning.{IsWithin, PairTypes}
 use Rattle.isa_unify.specs.declared.equation.Variable.{Variable}
 use Rattle.isa_unify.specs.Unification.{types_in, variable, bind_all, place_behind, moved, abstracted, arrows, range_behind, on_bounds, becomes}
 use Rattle.isa_unify.proofs.TypeInstances.{inst_nothing}

@@ -4,14 +4,14 @@ use Rattle.isa_terms.specs.Types.{Ty}
 use Rattle.isa_terms.specs.Terms.{Tm, bare}
 use Rattle.isa_terms.specs.Norm.{norm}
 use Rattle.isa_terms.specs.Instance.{Instance, find_type, find_term, inst_ty, inst_tm, instance_of}
-use Rattle.isa_conversion.specs.Typed.{Typed}
-use Rattle.isa_conversion.specs.Instances.{IsKept}
-use Rattle.isa_conversion.proofs.Typed.{typed_of_type}
-use Rattle.isa_conversion.proofs.Conv.{right_typed, norm_conv}
-use Rattle.isa_conversion.proofs.Normal.{norm_same}
-use Rattle.isa_conversion.proofs.Instances.{inst_typed}
-use Rattle.isa_conversion.proofs.Heads.{one_type}
-use Rattle.isa_conversion.proofs.Unique.{conv_norm}
+use Rattle.isa_terms.specs.Typed.{Typed}
+use Rattle.isa_terms.specs.Instances.{IsKept}
+use Rattle.isa_terms.proofs.Typed.{typed_of_type}
+use Rattle.isa_terms.proofs.Conv.{right_typed, norm_conv}
+use Rattle.isa_terms.proofs.NormalForms.{norm_same}
+use Rattle.isa_terms.proofs.Instances.{inst_typed}
+use Rattle.isa_terms.proofs.Heads.{one_type}
+use Rattle.isa_terms.proofs.Unique.{conv_norm}
 use Rattle.isa_unify.specs.TypeUnification.{ty_has}
 use Rattle.isa_unify.specs.Matching.{matched, ty_matched, has_unknown, has_type_unknown, have_unknown, have_type_unknown, match_from, all_from, match_all_of, IsAsked, AreAsked, MakesAll, AreMatched, AllMatch, DoesAs, ◌>>=◌}
 use Rattle.isa_unify.proofs.Tests.{or_left, or_right, same_test, some_same}

@@ -11,16 +11,16 @@ use Rattle.isa_terms.specs.Instance.{find_type, find_term, inst_ty, inst_tys, in
 use Rattle.isa_terms.specs.declared.inst.TypeEntry.{TypeEntry}
 use Rattle.isa_terms.specs.declared.inst.TermEntry.{TermEntry}
 use Rattle.isa_terms.proofs.Equal.{ty_decides}
-use Rattle.isa_conversion.specs.Typed.{Typed, TConst, TFree, TUnknown, TBound, TAbs, TApp}
-use Rattle.isa_conversion.specs.Conversion.{Conv, CRefl, CApp, CAbs}
-use Rattle.isa_conversion.specs.Instances.{IsKept}
-use Rattle.isa_conversion.proofs.Typed.{type_of_typed}
-use Rattle.isa_conversion.proofs.Conv.{right_typed, norm_conv}
-use Rattle.isa_conversion.proofs.Names.{norm_same_conv}
-use Rattle.isa_conversion.proofs.Heads.{one_type}
-use Rattle.isa_conversion.proofs.Instances.{get_inst}
-use Rattle.isa_conversion.proofs.Composing.{Covers, covers_front, covers_back, some_front, number_self, typ_self, and_true}
-use Rattle.isa_conversion.proofs.Valuations.{Values, val, AreFit, conv_anywhere}
+use Rattle.isa_terms.specs.Typed.{Typed, TConst, TFree, TUnknown, TBound, TAbs, TApp}
+use Rattle.isa_terms.specs.Conversion.{Conv, CRefl, CApp, CAbs}
+use Rattle.isa_terms.specs.Instances.{IsKept}
+use Rattle.isa_terms.proofs.Typed.{type_of_typed}
+use Rattle.isa_terms.proofs.Conv.{right_typed, norm_conv}
+use Rattle.isa_terms.proofs.FreeNames.{norm_same_conv}
+use Rattle.isa_terms.proofs.Heads.{one_type}
+use Rattle.isa_terms.proofs.Instances.{get_inst}
+use Rattle.isa_terms.proofs.Composing.{Covers, covers_front, covers_back, some_front, number_self, typ_self, and_true}
+use Rattle.isa_terms.proofs.Valuations.{Values, val, AreFit, conv_anywhere}
 use Rattle.isa_unify.specs.TypeUnification.{entries_under}
 use Rattle.isa_unify.specs.declared.equation.Equation.{Equation}
 use Rattle.isa_unify.specs.Unification.{becomes, with_type_unknowns, with_all_type_unknowns, with_types, with_unknowns, asked_types, asked_terms}

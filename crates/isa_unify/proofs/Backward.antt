@@ -12,14 +12,14 @@ use Rattle.isa_terms.specs.Norm.{norm}
 use Rattle.isa_terms.specs.Normal.{IsNormal}
 use Rattle.isa_terms.specs.Instance.{inst_ty}
 use Rattle.isa_terms.specs.declared.inst.TypeEntry.{TypeEntry}
-use Rattle.isa_conversion.specs.Typed.{Typed}
-use Rattle.isa_conversion.specs.Conversion.{Conv, CSym, CTrans, CAbs}
-use Rattle.isa_conversion.proofs.Conv.{left_typed, right_typed}
-use Rattle.isa_conversion.proofs.Names.{norm_same_conv, renamed_conv}
-use Rattle.isa_conversion.proofs.Unique.{conv_norm, abs_typed, domain_same}
-use Rattle.isa_conversion.proofs.Opening.{close_conv}
-use Rattle.isa_conversion.proofs.Heads.{IsSpine, IsRigid, rigid_spine, normal_spine, apps_again, one_type}
-use Rattle.isa_conversion.proofs.Valuations.{Values, val, AreFit, val_raise, val_rigid, val_typed}
+use Rattle.isa_terms.specs.Typed.{Typed}
+use Rattle.isa_terms.specs.Conversion.{Conv, CSym, CTrans, CAbs}
+use Rattle.isa_terms.proofs.Conv.{left_typed, right_typed}
+use Rattle.isa_terms.proofs.FreeNames.{norm_same_conv, renamed_conv}
+use Rattle.isa_terms.proofs.Unique.{conv_norm, abs_typed, domain_same}
+use Rattle.isa_terms.proofs.Opening.{close_conv}
+use Rattle.isa_terms.proofs.Heads.{IsSpine, IsRigid, rigid_spine, normal_spine, apps_again, one_type}
+use Rattle.isa_terms.proofs.Valuations.{Values, val, AreFit, val_raise, val_rigid, val_typed}
 use Rattle.isa_unify.specs.declared.equation.Variable.{Variable}
 use Rattle.isa_unify.specs.declared.equation.Equation.{Equation}
 use Rattle.isa_unify.specs.declared.progress.Parts.{Parts}

@@ -5,14 +5,14 @@ use Rattle.isa_terms.specs.Terms.{Tm, Const, Free, Unknown, Bound, Abs, App}
 use Rattle.isa_terms.specs.Instance.{inst_ty, inst_tm}
 use Rattle.isa_terms.specs.declared.inst.TypeEntry.{TypeEntry}
 use Rattle.isa_terms.specs.declared.inst.TermEntry.{TermEntry}
-use Rattle.isa_conversion.specs.Typed.{Typed}
-use Rattle.isa_conversion.specs.Conversion.{Conv, CSym, CTrans}
-use Rattle.isa_conversion.specs.Instances.{IsKept, types_after}
-use Rattle.isa_conversion.proofs.Conv.{left_typed, right_typed, norm_conv}
-use Rattle.isa_conversion.proofs.Composing.{after_ty}
-use Rattle.isa_conversion.proofs.Instances.{inst_typed}
-use Rattle.isa_conversion.proofs.Heads.{one_type}
-use Rattle.isa_conversion.proofs.Valuations.{Values, val, AreFit, AgreeOn, agree_conv, values_of, values_fit, values_after, val_inst, val_val, val_norm, after_fit}
+use Rattle.isa_terms.specs.Typed.{Typed}
+use Rattle.isa_terms.specs.Conversion.{Conv, CSym, CTrans}
+use Rattle.isa_terms.specs.Instances.{IsKept, types_after}
+use Rattle.isa_terms.proofs.Conv.{left_typed, right_typed, norm_conv}
+use Rattle.isa_terms.proofs.Composing.{after_ty}
+use Rattle.isa_terms.proofs.Instances.{inst_typed}
+use Rattle.isa_terms.proofs.Heads.{one_type}
+use Rattle.isa_terms.proofs.Valuations.{Values, val, AreFit, AgreeOn, agree_conv, values_of, values_fit, values_after, val_inst, val_val, val_norm, after_fit}
 use Rattle.isa_unify.specs.declared.equation.Variable.{Variable}
 use Rattle.isa_unify.specs.declared.equation.Equation.{Equation}
 use Rattle.isa_unify.specs.declared.progress.State.{State}

@@ -8,12 +8,12 @@ use Rattle.isa_terms.specs.Terms.{Tm, Const, Free, Unknown, Bound, Abs, App}
 use Rattle.isa_terms.specs.Typing.{function_of}
 use Rattle.isa_terms.specs.Replace.{raise, replace}
 use Rattle.isa_terms.specs.Norm.{loose, eta}
-use Rattle.isa_conversion.specs.Typed.{Typed, TBound}
-use Rattle.isa_conversion.proofs.Typed.{unloose}
-use Rattle.isa_conversion.proofs.Unique.{app_typed}
-use Rattle.isa_conversion.proofs.Heads.{IsSpine, IsRigid}
-use Rattle.isa_conversion.proofs.Loose.{or_false}
-use Rattle.isa_conversion.proofs.Abstracting.{on_bounds, Absent, AreDistinct, Among, arrow, AreKnown}
+use Rattle.isa_terms.specs.Typed.{Typed, TBound}
+use Rattle.isa_terms.proofs.Typed.{unloose}
+use Rattle.isa_terms.proofs.Unique.{app_typed}
+use Rattle.isa_terms.proofs.Heads.{IsSpine, IsRigid}
+use Rattle.isa_terms.proofs.Loose.{or_false}
+use Rattle.isa_terms.proofs.Abstracting.{on_bounds, Absent, AreDistinct, Among, arrow, AreKnown}
 use Rattle.isa_unify.specs.Spines.{head_of, args_of, is_flexible, has_number, are_distinct, bounds_of, if_distinct, distinct_bounds}
 use Rattle.isa_unify.proofs.Unknowns.{Key, key, or_right}
 

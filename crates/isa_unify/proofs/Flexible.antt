@@ -8,8 +8,8 @@ use Rattle.isa_terms.specs.Typing.{function_of}
 use Rattle.isa_terms.specs.Instance.{Instance, inst_tm}
 use Rattle.isa_terms.specs.declared.inst.TypeEntry.{TypeEntry}
 use Rattle.isa_terms.specs.declared.inst.TermEntry.{TermEntry}
-use Rattle.isa_conversion.specs.Typed.{Typed, TUnknown, TBound, TApp}
-use Rattle.isa_conversion.proofs.Heads.{IsRigid}
+use Rattle.isa_terms.specs.Typed.{Typed, TUnknown, TBound, TApp}
+use Rattle.isa_terms.proofs.Heads.{IsRigid}
 use Rattle.isa_unify.specs.TypeUnification.{ty_has}
 use Rattle.isa_unify.specs.Matching.{Binder, Flexible, flexible, applied, solved, matched, has_unknown, has_type_unknown, app_parts, ◌>>=◌}
 use Rattle.isa_unify.proofs.Tests.{some_same}

@@ -10,12 +10,12 @@ use Rattle.isa_terms.specs.Normal.{IsNormal}
 use Rattle.isa_terms.specs.Instance.{inst_ty}
 use Rattle.isa_terms.specs.declared.inst.TypeEntry.{TypeEntry}
 use Rattle.isa_terms.specs.declared.inst.TermEntry.{TermEntry}
-use Rattle.isa_conversion.specs.Typed.{Typed}
-use Rattle.isa_conversion.proofs.Unique.{app_typed}
-use Rattle.isa_conversion.proofs.Heads.{IsSpine, IsRigid, normal_spine}
-use Rattle.isa_conversion.proofs.Abstracting as abstracting
-use Rattle.isa_conversion.proofs.Abstracting.{AreDistinct, Among, AreKnown, arrow, inst_typs, inst_arrow, on_bounds_typed}
-use Rattle.isa_conversion.proofs.Valuations.{Values, AreFit}
+use Rattle.isa_terms.specs.Typed.{Typed}
+use Rattle.isa_terms.proofs.Unique.{app_typed}
+use Rattle.isa_terms.proofs.Heads.{IsSpine, IsRigid, normal_spine}
+use Rattle.isa_terms.proofs.Abstracting as abstracting
+use Rattle.isa_terms.proofs.Abstracting.{AreDistinct, Among, AreKnown, arrow, inst_typs, inst_arrow, on_bounds_typed}
+use Rattle.isa_terms.proofs.Valuations.{Values, AreFit}
 use Rattle.isa_unify.specs.declared.equation.Variable.{Variable}
 use Rattle.isa_unify.specs.declared.equation.Equation.{Equation}
 use Rattle.isa_unify.specs.declared.progress.Parts.{Parts}

@@ -6,15 +6,15 @@ use Rattle.isa_terms.specs.Terms.{Tm, Const, Free, Unknown, Bound, Abs, App}
 use Rattle.isa_terms.specs.Instance.{Instance, find_term, inst_ty, inst_tm}
 use Rattle.isa_terms.specs.declared.inst.TypeEntry.{TypeEntry}
 use Rattle.isa_terms.specs.declared.inst.TermEntry.{TermEntry}
-use Rattle.isa_conversion.specs.Typed.{Typed, TUnknown}
-use Rattle.isa_conversion.specs.Conversion.{Conv}
-use Rattle.isa_conversion.specs.Instances.{KeepsTypes}
-use Rattle.isa_conversion.proofs.Typed.{typed_of_type}
-use Rattle.isa_conversion.proofs.Conv.{right_typed, norm_conv}
-use Rattle.isa_conversion.proofs.Names.{norm_same_conv}
-use Rattle.isa_conversion.proofs.Instances.{inst_typed}
-use Rattle.isa_conversion.proofs.Heads.{one_type}
-use Rattle.isa_conversion.proofs.Valuations.{Values, val, AreFit, values_of, values_fit, val_inst}
+use Rattle.isa_terms.specs.Typed.{Typed, TUnknown}
+use Rattle.isa_terms.specs.Conversion.{Conv}
+use Rattle.isa_terms.specs.Instances.{KeepsTypes}
+use Rattle.isa_terms.proofs.Typed.{typed_of_type}
+use Rattle.isa_terms.proofs.Conv.{right_typed, norm_conv}
+use Rattle.isa_terms.proofs.FreeNames.{norm_same_conv}
+use Rattle.isa_terms.proofs.Instances.{inst_typed}
+use Rattle.isa_terms.proofs.Heads.{one_type}
+use Rattle.isa_terms.proofs.Valuations.{Values, val, AreFit, values_of, values_fit, val_inst}
 use Rattle.isa_unify.specs.declared.equation.Equation.{Equation}
 use Rattle.isa_unify.specs.declared.progress.Parts.{Parts}
 use Rattle.isa_unify.specs.declared.progress.Parts.TheVariants.{Flexible, Clash, Into, Heads}

@@ -6,10 +6,10 @@ use Rattle.isa_terms.specs.Normal.{redex, IsHead, IsNormal}
 use Rattle.isa_terms.specs.Instance.{inst_ty}
 use Rattle.isa_terms.specs.declared.inst.TypeEntry.{TypeEntry}
 use Rattle.isa_terms.specs.declared.inst.TermEntry.{TermEntry}
-use Rattle.isa_conversion.specs.Instances.{IsKept}
-use Rattle.isa_conversion.proofs.Normal.{norm_normal}
-use Rattle.isa_conversion.proofs.Instances.{inst_typed}
-use Rattle.isa_conversion.proofs.Valuations.{Values, AreFit}
+use Rattle.isa_terms.specs.Instances.{IsKept}
+use Rattle.isa_terms.proofs.NormalForms.{norm_normal}
+use Rattle.isa_terms.proofs.Instances.{inst_typed}
+use Rattle.isa_terms.proofs.Valuations.{Values, AreFit}
 use Rattle.isa_unify.specs.declared.equation.Equation.{Equation}
 use Rattle.isa_unify.specs.declared.progress.State.{State}
 use Rattle.isa_unify.specs.Unification.{filled, filled_equation, filled_entry, retyped, retyped_equation, retyped_entry, retyped_state}

@@ -10,13 +10,13 @@ use Rattle.isa_terms.specs.Normal.{IsHead, IsNormal}
 use Rattle.isa_terms.specs.Order.{head_of}
 use Rattle.isa_terms.specs.Pattern.{is_unknown, is_argument, is_new_bound, distinct_args, is_pattern}
 use Rattle.isa_terms.specs.Instance.{Instance, find_type, find_term, inst_ty, inst_tm}
-use Rattle.isa_conversion.specs.Typed.{Typed, TConst, TFree, TUnknown, TBound, TAbs, TApp}
-use Rattle.isa_conversion.proofs.Typed.{typed_of_type}
-use Rattle.isa_conversion.proofs.Conv.{right_typed, norm_conv}
-use Rattle.isa_conversion.proofs.Normal.{norm_same}
-use Rattle.isa_conversion.proofs.Instances.{inst_typed}
-use Rattle.isa_conversion.proofs.Heads.{IsRigid, one_type}
-use Rattle.isa_conversion.proofs.Unique.{conv_norm}
+use Rattle.isa_terms.specs.Typed.{Typed, TConst, TFree, TUnknown, TBound, TAbs, TApp}
+use Rattle.isa_terms.proofs.Typed.{typed_of_type}
+use Rattle.isa_terms.proofs.Conv.{right_typed, norm_conv}
+use Rattle.isa_terms.proofs.NormalForms.{norm_same}
+use Rattle.isa_terms.proofs.Instances.{inst_typed}
+use Rattle.isa_terms.proofs.Heads.{IsRigid, one_type}
+use Rattle.isa_terms.proofs.Unique.{conv_norm}
 use Rattle.isa_unify.specs.TypeUnification.{ty_has}
 use Rattle.isa_unify.specs.Matching.{Flexible, flexible, applied, matched, ty_matched, has_unknown, has_type_unknown, closed_type, match_from, match_of, IsAsked, IsMatch, DoesAs, IsTheMatch, ◌>>=◌}
 use Rattle.isa_unify.proofs.Tests.{both_true, and_true, or_left, or_right, either_true, neither_true, same_test, some_same}

@@ -8,13 +8,13 @@ use Rattle.isa_terms.specs.Instance.{inst_ty, inst_tm}
 use Rattle.isa_terms.specs.declared.inst.TypeEntry.{TypeEntry}
 use Rattle.isa_terms.specs.declared.inst.TermEntry.{TermEntry}
 use Rattle.isa_terms.proofs.Equal.{ty_decides}
-use Rattle.isa_conversion.specs.Typed.{Typed, TUnknown}
-use Rattle.isa_conversion.specs.Conversion.{Conv, CTrans, CRefl}
-use Rattle.isa_conversion.specs.Instances.{IsKept, types_after}
-use Rattle.isa_conversion.proofs.Unique.{conv_norm}
-use Rattle.isa_conversion.proofs.Composing.{after_ty}
-use Rattle.isa_conversion.proofs.Instances.{unknown_typed}
-use Rattle.isa_conversion.proofs.Valuations.{Values, val, AreFit, agree_conv, values_of, values_fit, values_after, val_val, after_fit}
+use Rattle.isa_terms.specs.Typed.{Typed, TUnknown}
+use Rattle.isa_terms.specs.Conversion.{Conv, CTrans, CRefl}
+use Rattle.isa_terms.specs.Instances.{IsKept, types_after}
+use Rattle.isa_terms.proofs.Unique.{conv_norm}
+use Rattle.isa_terms.proofs.Composing.{after_ty}
+use Rattle.isa_terms.proofs.Instances.{unknown_typed}
+use Rattle.isa_terms.proofs.Valuations.{Values, val, AreFit, agree_conv, values_of, values_fit, values_after, val_val, after_fit}
 use Rattle.isa_unify.specs.declared.equation.Equation.{Equation}
 use Rattle.isa_unify.specs.declared.progress.State.{State}
 use Rattle.isa_unify.specs.TypeUnification.{entries_under}

@@ -7,16 +7,16 @@ use Rattle.isa_terms.specs.Norm.{loose, norm}
 use Rattle.isa_terms.specs.Instance.{find_term, inst_ty, inst_tm}
 use Rattle.isa_terms.specs.declared.inst.TypeEntry.{TypeEntry}
 use Rattle.isa_terms.specs.declared.inst.TermEntry.{TermEntry}
-use Rattle.isa_conversion.specs.Typed.{Typed}
-use Rattle.isa_conversion.specs.Conversion.{Conv, CSym, CTrans}
-use Rattle.isa_conversion.proofs.Conv.{left_typed}
-use Rattle.isa_conversion.proofs.Unique.{conv_norm}
-use Rattle.isa_conversion.proofs.Heads.{one_type}
-use Rattle.isa_conversion.proofs.Loose.{loose_bare}
-use Rattle.isa_conversion.proofs.Abstracting as abstracting
-use Rattle.isa_conversion.proofs.Abstracting.{AreDistinct, Among, AreKnown, arrow, tower, inst_typs, inst_arrow}
-use Rattle.isa_conversion.proofs.Pruning.{IsWithin, applied_within, closed_only}
-use Rattle.isa_conversion.proofs.Valuations.{Values, val, AreFit, val_typed, val_on_bounds}
+use Rattle.isa_terms.specs.Typed.{Typed}
+use Rattle.isa_terms.specs.Conversion.{Conv, CSym, CTrans}
+use Rattle.isa_terms.proofs.Conv.{left_typed}
+use Rattle.isa_terms.proofs.Unique.{conv_norm}
+use Rattle.isa_terms.proofs.Heads.{one_type}
+use Rattle.isa_terms.proofs.Loose.{loose_bare}
+use Rattle.isa_terms.proofs.Abstracting as abstracting
+use Rattle.isa_terms.proofs.Abstracting.{AreDistinct, Among, AreKnown, arrow, tower, inst_typs, inst_arrow}
+use Rattle.isa_terms.proofs.Pruning.{IsWithin, applied_within, closed_only}
+use Rattle.isa_terms.proofs.Valuations.{Values, val, AreFit, val_typed, val_on_bounds}
 use Rattle.isa_unify.specs.declared.equation.Variable.{Variable}
 use Rattle.isa_unify.specs.declared.equation.Equation.{Equation}
 use Rattle.isa_unify.specs.declared.progress.State.{State}

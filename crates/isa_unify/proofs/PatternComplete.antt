@@ -13,16 +13,16 @@ use Rattle.isa_terms.specs.Instance.{Instance, find_type, find_term, inst_ty, in
 use Rattle.isa_terms.specs.declared.inst.TypeEntry.{TypeEntry}
 use Rattle.isa_terms.specs.declared.inst.TermEntry.{TermEntry}
 use Rattle.isa_terms.proofs.Bare.{tm_decides}
-use Rattle.isa_conversion.specs.Typed.{Typed, TBound, TAbs, TApp}
-use Rattle.isa_conversion.specs.Conversion.{Conv}
-use Rattle.isa_conversion.specs.Instances.{IsKept}
-use Rattle.isa_conversion.proofs.Typed.{typed_of_type}
-use Rattle.isa_conversion.proofs.Names.{norm_same_conv}
-use Rattle.isa_conversion.proofs.Normal.{norm_same}
-use Rattle.isa_conversion.proofs.Opening.{next_typed, open_conv, bodies_conv}
-use Rattle.isa_conversion.proofs.Instances.{inst_typed, closed_anywhere}
-use Rattle.isa_conversion.proofs.Heads.{IsRigid, app_norm, inst_rigid, rigid_spine}
-use Rattle.isa_conversion.proofs.Unique.{app_typed, abs_typed, conv_norm}
+use Rattle.isa_terms.specs.Typed.{Typed, TBound, TAbs, TApp}
+use Rattle.isa_terms.specs.Conversion.{Conv}
+use Rattle.isa_terms.specs.Instances.{IsKept}
+use Rattle.isa_terms.proofs.Typed.{typed_of_type}
+use Rattle.isa_terms.proofs.FreeNames.{norm_same_conv}
+use Rattle.isa_terms.proofs.NormalForms.{norm_same}
+use Rattle.isa_terms.proofs.Opening.{next_typed, open_conv, bodies_conv}
+use Rattle.isa_terms.proofs.Instances.{inst_typed, closed_anywhere}
+use Rattle.isa_terms.proofs.Heads.{IsRigid, app_norm, inst_rigid, rigid_spine}
+use Rattle.isa_terms.proofs.Unique.{app_typed, abs_typed, conv_norm}
 use Rattle.isa_unify.specs.TypeUnification.{ty_has}
 use Rattle.isa_unify.specs.Matching.{Binder, Flexible, flexible, is_closed, solved, bound_to, typed, matched, has_unknown, has_type_unknown, app_parts, ty_matched, ◌>>=◌}
 use Rattle.isa_unify.proofs.Tests.{or_left, or_right, some_same, value_of}

@@ -13,16 +13,16 @@ use Rattle.isa_terms.specs.declared.inst.TypeEntry.{TypeEntry}
 use Rattle.isa_terms.specs.declared.inst.TermEntry.{TermEntry}
 use Rattle.isa_terms.proofs.Equal.{ty_decides}
 use Rattle.isa_terms.proofs.Bare.{tm_decides, type_at_bare}
-use Rattle.isa_conversion.specs.Typed.{Typed, TConst, TFree, TBound, TApp}
-use Rattle.isa_conversion.specs.Conversion.{Conv, CRefl, CTrans, CApp, CAbs}
-use Rattle.isa_conversion.specs.Instances.{IsKept}
-use Rattle.isa_conversion.proofs.Typed.{type_of_typed, typed_of_type}
-use Rattle.isa_conversion.proofs.Names.{renamed_conv, same_conv}
-use Rattle.isa_conversion.proofs.Normal.{raise_head, raise_normal}
-use Rattle.isa_conversion.proofs.Opening.{next_typed, close_conv}
-use Rattle.isa_conversion.proofs.Loose.{closed_has_type}
-use Rattle.isa_conversion.proofs.Heads.{IsRigid}
-use Rattle.isa_conversion.proofs.Unique.{app_typed, abs_typed}
+use Rattle.isa_terms.specs.Typed.{Typed, TConst, TFree, TBound, TApp}
+use Rattle.isa_terms.specs.Conversion.{Conv, CRefl, CTrans, CApp, CAbs}
+use Rattle.isa_terms.specs.Instances.{IsKept}
+use Rattle.isa_terms.proofs.Typed.{type_of_typed, typed_of_type}
+use Rattle.isa_terms.proofs.FreeNames.{renamed_conv, same_conv}
+use Rattle.isa_terms.proofs.NormalForms.{raise_head, raise_normal}
+use Rattle.isa_terms.proofs.Opening.{next_typed, close_conv}
+use Rattle.isa_terms.proofs.Loose.{closed_has_type}
+use Rattle.isa_terms.proofs.Heads.{IsRigid}
+use Rattle.isa_terms.proofs.Unique.{app_typed, abs_typed}
 use Rattle.isa_unify.specs.TypeUnification.{ty_has}
 use Rattle.isa_unify.specs.Matching.{Binder, Flexible, flexible, is_closed, solved, bound_to, typed, matched, has_unknown, has_type_unknown, app_parts, ◌>>=◌}
 use Rattle.isa_unify.proofs.Tests.{both_true, and_true, or_left, or_right, some_same, value_of, name_self, name_true, number_self, number_true}

@@ -9,12 +9,12 @@ use Rattle.isa_terms.specs.Typing.{function_of}
 use Rattle.isa_terms.specs.Normal.{IsHead, IsNormal}
 use Rattle.isa_terms.specs.Instance.{inst_ty}
 use Rattle.isa_terms.specs.declared.inst.TypeEntry.{TypeEntry}
-use Rattle.isa_conversion.specs.Typed.{Typed, TConst, TFree, TBound, TApp}
-use Rattle.isa_conversion.proofs.Unique.{abs_typed, app_typed, domain_same, range_same}
-use Rattle.isa_conversion.proofs.Opening.{next_typed}
-use Rattle.isa_conversion.proofs.Normal.{raise_normal, raise_head}
-use Rattle.isa_conversion.proofs.Instances.{inst_typed}
-use Rattle.isa_conversion.proofs.Heads.{IsSpine, normal_spine, one_type}
+use Rattle.isa_terms.specs.Typed.{Typed, TConst, TFree, TBound, TApp}
+use Rattle.isa_terms.proofs.Unique.{abs_typed, app_typed, domain_same, range_same}
+use Rattle.isa_terms.proofs.Opening.{next_typed}
+use Rattle.isa_terms.proofs.NormalForms.{raise_normal, raise_head}
+use Rattle.isa_terms.proofs.Instances.{inst_typed}
+use Rattle.isa_terms.proofs.Heads.{IsSpine, normal_spine, one_type}
 use Rattle.isa_unify.specs.declared.equation.Variable.{Variable}
 use Rattle.isa_unify.specs.declared.equation.Equation.{Equation}
 use Rattle.isa_unify.specs.declared.progress.Parts.{Parts}

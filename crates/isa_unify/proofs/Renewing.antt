@@ -10,16 +10,16 @@ use Rattle.isa_terms.specs.Instance.{inst_ty, inst_tm}
 use Rattle.isa_terms.specs.declared.inst.TypeEntry.{TypeEntry}
 use Rattle.isa_terms.specs.declared.inst.TermEntry.{TermEntry}
 use Rattle.isa_terms.proofs.Equal.{ty_decides}
-use Rattle.isa_conversion.specs.Typed.{Typed, TUnknown}
-use Rattle.isa_conversion.specs.Conversion.{Conv, CSym, CTrans}
-use Rattle.isa_conversion.proofs.Conv.{left_typed}
-use Rattle.isa_conversion.proofs.Heads.{one_type}
-use Rattle.isa_conversion.proofs.Renames.{rename}
-use Rattle.isa_conversion.proofs.Abstracting as abstracting
-use Rattle.isa_conversion.proofs.Abstracting.{AreDistinct, Among, AreKnown, arrow, tower, inst_typs, inst_arrow, on_bounds_typed}
-use Rattle.isa_conversion.proofs.Pruning as pruning
-use Rattle.isa_conversion.proofs.Pruning.{IsWithin, known_at, known_all, among_or_not, on_bounds_misses, applied_within, closed_only, Factors, factors, PairTypes, taking, taking_agreeing, taking_conv, rename_on_bounds, agreeing_within, agreeing_front}
-use Rattle.isa_conversion.proofs.Valuations.{Values, val, AreFit, val_typed, val_conv, val_tower, val_on_bounds}
+use Rattle.isa_terms.specs.Typed.{Typed, TUnknown}
+use Rattle.isa_terms.specs.Conversion.{Conv, CSym, CTrans}
+use Rattle.isa_terms.proofs.Conv.{left_typed}
+use Rattle.isa_terms.proofs.Heads.{one_type}
+use Rattle.isa_terms.proofs.Renames.{rename}
+use Rattle.isa_terms.proofs.Abstracting as abstracting
+use Rattle.isa_terms.proofs.Abstracting.{AreDistinct, Among, AreKnown, arrow, tower, inst_typs, inst_arrow, on_bounds_typed}
+use Rattle.isa_terms.proofs.Pruning as pruning
+use Rattle.isa_terms.proofs.Pruning.{IsWithin, known_at, known_all, among_or_not, on_bounds_misses, applied_within, closed_only, Factors, factors, PairTypes, taking, taking_agreeing, taking_conv, rename_on_bounds, agreeing_within, agreeing_front}
+use Rattle.isa_terms.proofs.Valuations.{Values, val, AreFit, val_typed, val_conv, val_tower, val_on_bounds}
 use Rattle.isa_unify.specs.declared.equation.Variable.{Variable}
 use Rattle.isa_unify.specs.declared.equation.Equation.{Equation}
 use Rattle.isa_unify.specs.declared.progress.State.{State}

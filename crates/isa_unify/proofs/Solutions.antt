@@ -9,14 +9,14 @@ use Rattle.isa_terms.specs.Norm.{loose, eta, norm}
 use Rattle.isa_terms.specs.Normal.{IsNormal}
 use Rattle.isa_terms.specs.Instance.{inst_ty}
 use Rattle.isa_terms.specs.declared.inst.TypeEntry.{TypeEntry}
-use Rattle.isa_conversion.specs.Typed.{Typed, TConst, TFree, TUnknown, TBound, TAbs, TApp}
-use Rattle.isa_conversion.specs.Conversion.{Conv, CRefl, CSym, CTrans, CApp}
-use Rattle.isa_conversion.proofs.Conv.{right_typed, eta_conv, norm_conv}
-use Rattle.isa_conversion.proofs.Normal.{eta_normal, norm_same}
-use Rattle.isa_conversion.proofs.RenamedNormal.{over_normal}
-use Rattle.isa_conversion.proofs.Opening.{over_typed, over_applied, over_only}
-use Rattle.isa_conversion.proofs.Loose.{beyond_misses}
-use Rattle.isa_conversion.proofs.Unique.{conv_norm, domain_same, range_same}
+use Rattle.isa_terms.specs.Typed.{Typed, TConst, TFree, TUnknown, TBound, TAbs, TApp}
+use Rattle.isa_terms.specs.Conversion.{Conv, CRefl, CSym, CTrans, CApp}
+use Rattle.isa_terms.proofs.Conv.{right_typed, eta_conv, norm_conv}
+use Rattle.isa_terms.proofs.NormalForms.{eta_normal, norm_same}
+use Rattle.isa_terms.proofs.RenamedNormal.{over_normal}
+use Rattle.isa_terms.proofs.Opening.{over_typed, over_applied, over_only}
+use Rattle.isa_terms.proofs.Loose.{beyond_misses}
+use Rattle.isa_terms.proofs.Unique.{conv_norm, domain_same, range_same}
 use Rattle.isa_unify.specs.TypeUnification.{ty_has}
 use Rattle.isa_unify.specs.Matching.{Binder, over, solution, is_closed, ◌>>=◌}
 use Rattle.isa_unify.proofs.Tests.{both_true, and_true, or_left, or_right, either_true, some_same}

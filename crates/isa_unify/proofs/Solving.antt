@@ -6,19 +6,19 @@ use Rattle.isa_terms.specs.Normal.{IsNormal}
 use Rattle.isa_terms.specs.Instance.{inst_ty, inst_tm}
 use Rattle.isa_terms.specs.declared.inst.TypeEntry.{TypeEntry}
 use Rattle.isa_terms.specs.declared.inst.TermEntry.{TermEntry}
-use Rattle.isa_conversion.specs.Typed.{Typed}
-use Rattle.isa_conversion.specs.Conversion.{Conv, CSym, CTrans, CRefl}
-use Rattle.isa_conversion.proofs.Conv.{right_typed}
-use Rattle.isa_conversion.proofs.Names.{norm_same_conv}
-use Rattle.isa_conversion.proofs.Unique.{conv_norm}
-use Rattle.isa_conversion.proofs.Instances.{get_inst}
-use Rattle.isa_conversion.proofs.Heads.{one_type}
-use Rattle.isa_conversion.proofs.Loose.{or_false}
+use Rattle.isa_terms.specs.Typed.{Typed}
+use Rattle.isa_terms.specs.Conversion.{Conv, CSym, CTrans, CRefl}
+use Rattle.isa_terms.proofs.Conv.{right_typed}
+use Rattle.isa_terms.proofs.FreeNames.{norm_same_conv}
+use Rattle.isa_terms.proofs.Unique.{conv_norm}
+use Rattle.isa_terms.proofs.Instances.{get_inst}
+use Rattle.isa_terms.proofs.Heads.{one_type}
+use Rattle.isa_terms.proofs.Loose.{or_false}
 use Rattle.isa_unify.proofs.TypeInstances.{inst_nothing}
-use Rattle.isa_conversion.proofs.Abstracting as abstracting
-use Rattle.isa_conversion.proofs.Abstracting.{AreDistinct, Among, AreKnown, arrow, tower, inst_typs, inst_arrow, on_bounds_typed, on_bounds_conv}
-use Rattle.isa_conversion.proofs.Pruning.{IsWithin, closed_only}
-use Rattle.isa_conversion.proofs.Valuations.{Values, val, AreFit, val_typed, val_conv, val_tower, val_on_bounds}
+use Rattle.isa_terms.proofs.Abstracting as abstracting
+use Rattle.isa_terms.proofs.Abstracting.{AreDistinct, Among, AreKnown, arrow, tower, inst_typs, inst_arrow, on_bounds_typed, on_bounds_conv}
+use Rattle.isa_terms.proofs.Pruning.{IsWithin, closed_only}
+use Rattle.isa_terms.proofs.Valuations.{Values, val, AreFit, val_typed, val_conv, val_tower, val_on_bounds}
 use Rattle.isa_unify.specs.declared.equation.Variable.{Variable}
 use Rattle.isa_unify.specs.declared.equation.Equation.{Equation}
 use Rattle.isa_unify.specs.declared.progress.State.{State}

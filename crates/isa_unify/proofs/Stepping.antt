@@ -6,18 +6,18 @@ use Rattle.isa_terms.specs.Terms.{Tm, Unknown, bare}
 use Rattle.isa_terms.specs.Norm.{loose, norm}
 use Rattle.isa_terms.specs.Instance.{inst_ty}
 use Rattle.isa_terms.specs.declared.inst.TypeEntry.{TypeEntry}
-use Rattle.isa_conversion.specs.Typed.{Typed}
-use Rattle.isa_conversion.specs.Conversion.{Conv, CRefl}
-use Rattle.isa_conversion.proofs.Conv.{right_typed}
-use Rattle.isa_conversion.proofs.Unique.{conv_norm}
-use Rattle.isa_conversion.proofs.Instances.{closed_anywhere}
-use Rattle.isa_conversion.proofs.Heads.{IsRigid, rigid_spine, one_type}
-use Rattle.isa_conversion.proofs.Loose.{loose_bare}
-use Rattle.isa_conversion.proofs.Abstracting as abstracting
-use Rattle.isa_conversion.proofs.Abstracting.{AreDistinct, Among, AreKnown, arrow, inst_typs, inst_arrow, on_bounds_typed}
-use Rattle.isa_conversion.proofs.Pruning.{IsWithin, applied_within, closed_missing}
-use Rattle.isa_conversion.proofs.Size.{size, size_conv, size_applied, size_closed, spine_size_le}
-use Rattle.isa_conversion.proofs.Valuations.{Values, val, AreFit, val_typed, val_rigid, val_on_bounds}
+use Rattle.isa_terms.specs.Typed.{Typed}
+use Rattle.isa_terms.specs.Conversion.{Conv, CRefl}
+use Rattle.isa_terms.proofs.Conv.{right_typed}
+use Rattle.isa_terms.proofs.Unique.{conv_norm}
+use Rattle.isa_terms.proofs.Instances.{closed_anywhere}
+use Rattle.isa_terms.proofs.Heads.{IsRigid, rigid_spine, one_type}
+use Rattle.isa_terms.proofs.Loose.{loose_bare}
+use Rattle.isa_terms.proofs.Abstracting as abstracting
+use Rattle.isa_terms.proofs.Abstracting.{AreDistinct, Among, AreKnown, arrow, inst_typs, inst_arrow, on_bounds_typed}
+use Rattle.isa_terms.proofs.Pruning.{IsWithin, applied_within, closed_missing}
+use Rattle.isa_terms.proofs.Measures.{size, size_conv, size_applied, size_closed, spine_size_le}
+use Rattle.isa_terms.proofs.Valuations.{Values, val, AreFit, val_typed, val_rigid, val_on_bounds}
 use Rattle.isa_unify.specs.declared.equation.Variable.{Variable}
 use Rattle.isa_unify.specs.declared.equation.Equation.{Equation}
 use Rattle.isa_unify.specs.declared.progress.Verdict.{Verdict}

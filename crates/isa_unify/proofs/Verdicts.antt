@@ -9,14 +9,14 @@ use Rattle.isa_terms.specs.Norm.{loose, norm}
 use Rattle.isa_terms.specs.Normal.{IsNormal}
 use Rattle.isa_terms.specs.Instance.{inst_ty}
 use Rattle.isa_terms.specs.declared.inst.TypeEntry.{TypeEntry}
-use Rattle.isa_conversion.specs.Typed.{Typed}
-use Rattle.isa_conversion.proofs.Unique.{abs_typed, app_typed}
-use Rattle.isa_conversion.proofs.Heads.{IsSpine, IsRigid, rigid_spine, normal_spine, app_norm}
-use Rattle.isa_conversion.proofs.Loose.{or_false, neither, norm_misses, beyond_misses}
-use Rattle.isa_conversion.proofs.Abstracting.{on_bounds, AreDistinct, Among}
-use Rattle.isa_conversion.proofs.Pruning.{closed_missing, IsWithin, among_or_not, on_bounds_misses}
-use Rattle.isa_conversion.proofs.Size.{size, spine_size, size_abs, size_arg, size_fun, spine_size_le, size_closed, size_applied}
-use Rattle.isa_conversion.proofs.Valuations.{Values, val, AreFit, val_typed, val_rigid, val_on_bounds}
+use Rattle.isa_terms.specs.Typed.{Typed}
+use Rattle.isa_terms.proofs.Unique.{abs_typed, app_typed}
+use Rattle.isa_terms.proofs.Heads.{IsSpine, IsRigid, rigid_spine, normal_spine, app_norm}
+use Rattle.isa_terms.proofs.Loose.{or_false, neither, norm_misses, beyond_misses}
+use Rattle.isa_terms.proofs.Abstracting.{on_bounds, AreDistinct, Among}
+use Rattle.isa_terms.proofs.Pruning.{closed_missing, IsWithin, among_or_not, on_bounds_misses}
+use Rattle.isa_terms.proofs.Measures.{size, spine_size, size_abs, size_arg, size_fun, spine_size_le, size_closed, size_applied}
+use Rattle.isa_terms.proofs.Valuations.{Values, val, AreFit, val_typed, val_rigid, val_on_bounds}
 use Rattle.isa_unify.specs.declared.equation.Variable.{Variable}
 use Rattle.isa_unify.specs.declared.progress.Verdict.{Verdict}
 use Rattle.isa_unify.specs.declared.progress.Verdict.TheVariants.{Fine, Refused, Strays, Prunes}

@@ -6,12 +6,12 @@ use Rattle.isa_terms.specs.Norm.{norm}
 use Rattle.isa_terms.specs.Instance.{Instance, find_term, inst_ty, inst_tm}
 use Rattle.isa_terms.specs.declared.inst.TypeEntry.{TypeEntry}
 use Rattle.isa_terms.specs.declared.inst.TermEntry.{TermEntry}
-use Rattle.isa_conversion.specs.Conversion.{Conv, CSym}
-use Rattle.isa_conversion.specs.Instances.{IsFollowed}
-use Rattle.isa_conversion.proofs.Conv.{right_typed}
-use Rattle.isa_conversion.proofs.Unique.{conv_norm}
-use Rattle.isa_conversion.proofs.Composing.{Covers}
-use Rattle.isa_conversion.proofs.Valuations.{Values, val, AreFit, val_conv, val_norm, values_of, values_fit}
+use Rattle.isa_terms.specs.Conversion.{Conv, CSym}
+use Rattle.isa_terms.specs.Instances.{IsFollowed}
+use Rattle.isa_terms.proofs.Conv.{right_typed}
+use Rattle.isa_terms.proofs.Unique.{conv_norm}
+use Rattle.isa_terms.proofs.Composing.{Covers}
+use Rattle.isa_terms.proofs.Valuations.{Values, val, AreFit, val_conv, val_norm, values_of, values_fit}
 use Rattle.isa_unify.specs.declared.equation.Equation.{Equation}
 use Rattle.isa_unify.specs.declared.progress.Answer.TheVariants.{Yes, No}
 use Rattle.isa_unify.specs.TypeUnification.{entries_under, unify_typs}

@@ -9,7 +9,7 @@ use Rattle.isa_terms.specs.Norm.{eta, norm}
 use Rattle.isa_terms.specs.Normal.{IsNormal}
 use Rattle.isa_terms.specs.Pattern.{is_pattern}
 use Rattle.isa_terms.specs.Instance.{Instance, find_type, find_term, inst_ty, instance_of, set_type, set_term}
-use Rattle.isa_conversion.specs.Instances.{IsKept}
+use Rattle.isa_terms.specs.Instances.{IsKept}
 use Rattle.isa_unify.specs.TypeUnification.{ty_has}
 
 -- what a step makes of what is there

@@ -8,7 +8,7 @@ use Rattle.isa_terms.specs.Normal.{IsNormal}
 use Rattle.isa_terms.specs.Instance.{Instance, instance_of}
 use Rattle.isa_terms.specs.declared.inst.TypeEntry.{TypeEntry}
 use Rattle.isa_terms.specs.declared.inst.TermEntry.{TermEntry}
-use Rattle.isa_conversion.specs.Instances.{KeepsTypes, IsFollowed}
+use Rattle.isa_terms.specs.Instances.{KeepsTypes, IsFollowed}
 use Rattle.isa_unify.specs.declared.equation.Equation.{Equation}
 use Rattle.isa_unify.specs.declared.progress.Answer.TheVariants.{Yes, No}
 use Rattle.isa_unify.specs.Unification.{types_in, unify}

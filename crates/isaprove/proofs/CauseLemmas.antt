@@ -2,11 +2,11 @@
 use Rattle.std.proofs.Common.{◌≡◌, ◌⊎◌, ◌<◌, ◌-◌, ℕ, List, [], ◌∷◌, length, map, Bool, true, false, cond, Option, Some, None, inl, inr, refl, sym, ap, subst, ◌∙◌, arith, ltb-true}
 use Rattle.std.specs.Prelude.{nat_lt, nat_le, IsSomeAnd}
 use Rattle.isa_io.specs.FilesSeen.{FilesSeen, Texts, text_of}
-use Rattle.isa_outer.specs.declared.command.Command.{Command}
+use Rattle.isa_lines.specs.declared.command.Command.{Command}
 use Rattle.isaprove.specs.declared.context.OpenLemma.{OpenLemma}
 use Rattle.isaprove.specs.declared.status.Status.TheVariants as status
 use Rattle.isaprove.specs.Causes.{IsUsage, IsReadFault, SomeAbsent}
-use Rattle.isa_outer.specs.Commands.{commands_of}
+use Rattle.isa_lines.specs.Commands.{commands_of}
 use Rattle.isaprove.specs.Contexts.{ContextSeen, empty_context}
 use Rattle.isaprove.specs.Inputs.{AnswersAny}
 use Rattle.isaprove.specs.Part.{Part, End, Goes, Stops, go_on, stop}
@@ -14,7 +14,7 @@ use Rattle.isaprove.specs.Piece.{Piece}
 use Rattle.isaprove.specs.Printed.{Sinks, Answers}
 use Rattle.isaprove.specs.Run.{part_of, run_command, run_commands, run_read, run_line, run_lines, close_text, run_text, Given, Text, Long, Failed, limit, Input, run_given, run_file, run_files, is_reading, usage, run_of, answer_of, given_text, input_of, gave, fail_at, IsNoFailure, NoneFailed, AreInputs}
 use Rattle.isaprove.specs.Steps.{Outcome, Unbuilt, Fails, Takes, Prints, outcome}
-use Rattle.isa_outer.specs.Words.{lines_of, words_of}
+use Rattle.isa_lines.specs.Words.{lines_of, words_of}
 
 -- a text ends neither by a fault of files nor by its words
 OfText : End → Type 0

@@ -9,10 +9,10 @@ use Rattle.isaprove.specs.Piece.{Piece, Shown, ToOut, ToErr, out_of, err_of, cli
 use Rattle.isaprove.specs.Contexts.{ContextSeen}
 use Rattle.isaprove.specs.Part.{Part, End, Goes, Stops, after, next, go_on, pass, stop, at_line}
 use Rattle.isaprove.specs.Run.{part_of, run_read, close_text, run_command, run_commands, run_line, run_lines, run_text}
-use Rattle.isa_outer.specs.Words.{lines_of}
-use Rattle.isa_outer.specs.declared.command.Command.{Command}
-use Rattle.isa_outer.specs.Lines.{line_view}
-use Rattle.isa_outer.specs.declared.words.Line.{Line}
+use Rattle.isa_lines.specs.Words.{lines_of}
+use Rattle.isa_lines.specs.declared.command.Command.{Command}
+use Rattle.isa_lines.specs.Lines.{line_view}
+use Rattle.isa_lines.specs.declared.words.Line.{Line}
 use Rattle.std.proofs.lemmas.List.{drop_more}
 use Rattle.isaprove.specs.Printed.{Sinks, Writes, NoFault, Rose, All, Front, CutShort}
 use Rattle.isaprove.specs.Does.{Does, Passes, StopsAt, Shows, StopsWith, sinks}

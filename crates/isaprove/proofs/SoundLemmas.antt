@@ -5,17 +5,17 @@ use Rattle.std.specs.Map.{lookup}
 use Rattle.std.proofs.lemmas.List.{map-append}
 use Rattle.isa_terms.specs.Terms.{Tm, bare}
 use Rattle.isa_terms.specs.Equal.{name_eq}
-use Rattle.isa_kernel.specs.declared.axioms.NamedProp.{NamedProp}
+use Rattle.isa_kernel.specs.declared.base.BaseEntry.{BaseEntry}
 use Rattle.isa_kernel.specs.declared.declarations.Declaration.{Declaration}
-use Rattle.isa_kernel.specs.Axioms.{propositions, has_axiom, missing_axioms, joined_bases}
+use Rattle.isa_kernel.specs.Axioms.{propositions, joined_bases}
 use Rattle.isa_kernel.specs.Derivation.{Derives, Member, Within}
 use Rattle.isa_kernel.specs.Theorem.{Theorem}
 use Rattle.isa_kernel.specs.Theories.{axiom_prop, axiom_theorem, axioms_in}
-use Rattle.isa_kernel.proofs.Members.{Member-left, Within-append}
+use Rattle.isa_kernel.proofs.Members.{Member-left, Within-append, joined_rests}
 use Rattle.isa_kernel.proofs.Rules.{tree_more}
 use Rattle.isa_kernel.proofs.Theories.{axioms_append}
 use Rattle.isa_goal.specs.Goals.{Goals}
-use Rattle.isa_conversion.specs.Instances.{Each}
+use Rattle.isa_terms.specs.Instances.{Each}
 use Rattle.isa_subgoal.specs.Premises.{implies}
 use Rattle.isa_goal.specs.Follows.{Follows}
 use Rattle.isa_terms.specs.Instance.{instance_of}
@@ -45,21 +45,8 @@ follows_more ax more s t w f =
 Within-trans : (xs ys zs : List Tm) → Within xs ys → Within ys zs → Within xs zs
 Within-trans xs ys zs v w p m = w p (v p m)
 
-missing_here : (known cs : List NamedProp) (a : NamedProp) (b : Bool) → Within (propositions (missing_axioms known cs)) (propositions cs) → Within (propositions (cond b (missing_axioms known cs) (a ∷ missing_axioms known cs))) (propositions (a ∷ cs))
-missing_here known cs a true w p m = inr (w p m)
-missing_here known cs a false w p (inl e) = inl e
-missing_here known cs a false w p (inr m) = inr (w p m)
-
-missing_within : (known cs : List NamedProp) → Within (propositions (missing_axioms known cs)) (propositions cs)
-missing_within known [] p m = m
-missing_within known (a ∷ cs) p m = missing_here known cs a (has_axiom known a) (missing_within known cs) p m
-
-pub rests_joined : (ds : List Declaration) (a b : List NamedProp) → RestsOn ds a → RestsOn ds b → RestsOn ds (joined_bases a b)
-rests_joined ds a b v w =
-    subst
-    (λ (ps : List Tm). Within ps (axioms_of ds))
-    (sym (map-append (λ (e : NamedProp). bare e.prop) a (missing_axioms a b)))
-    (Within-append (propositions a) (propositions (missing_axioms a b)) (axioms_of ds) v (Within-trans (propositions (missing_axioms a b)) (propositions b) (axioms_of ds) (missing_within a b) w))
+pub rests_joined : (ds : List Declaration) (a b : List BaseEntry) → RestsOn ds a → RestsOn ds b → RestsOn ds (joined_bases a b)
+rests_joined ds a b v w = Within-trans (propositions (joined_bases a b)) (propositions a ++ propositions b) (axioms_of ds) (joined_rests a b) (Within-append (propositions a) (propositions b) (axioms_of ds) v w)
 
 -- ---- more declarations
 pub axioms_grow : (ds more : List Declaration) → Within (axioms_of ds) (axioms_of (ds ++ more))

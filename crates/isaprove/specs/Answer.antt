@@ -1,7 +1,7 @@
 -- What a call that makes a theorem or a state answers.
 use Rattle.std.specs.Prelude.{◌≡◌, Option, Some, None, Result, Ok, Err}
-use Rattle.isa_outer.specs.declared.error.SyntaxError.{SyntaxError}
-use Rattle.isa_outer.specs.declared.error.SyntaxError.TheVariants as error
+use Rattle.isa_lines.specs.declared.error.SyntaxError.{SyntaxError}
+use Rattle.isa_lines.specs.declared.error.SyntaxError.TheVariants as error
 use Rattle.isaprove.specs.declared.refusal.Refusal.{Refusal}
 use Rattle.isaprove.specs.declared.refusal.Refusal.TheVariants.{NotBuilt, NoResult, Memory}
 

@@ -8,8 +8,8 @@ use Rattle.isa_kernel.specs.Theorem.{Theorem, theorem_code}
 use Rattle.isa_kernel.specs.DeclarationCodes.{coded_declaration}
 use Rattle.isa_goal.specs.Goals.{Goals, goals_code}
 use Rattle.isa_kernel.specs.declared.declarations.Declaration.{Declaration}
-use Rattle.isa_syntax.specs.declared.signature.Judgment.{Judgment}
-use Rattle.isa_syntax.specs.Signatures.{SignatureSeen}
+use Rattle.isa_texts.specs.declared.signature.Judgment.{Judgment}
+use Rattle.isa_texts.specs.Signatures.{SignatureSeen}
 use Rattle.isaprove.specs.declared.context.Fact.{Fact}
 use Rattle.isaprove.specs.declared.context.OpenLemma.{OpenLemma}
 

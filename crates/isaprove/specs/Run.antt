@@ -5,12 +5,12 @@ use Rattle.std.specs.Prelude.{String}
 use Rattle.std.specs.declared.alloc.Global.{Global}
 use Rattle.std.specs.declared.option.Option.{Option}
 use Rattle.isa_io.specs.FilesSeen.{FilesSeen, Texts, text_of}
-use Rattle.isa_outer.specs.declared.command.Command.{Command}
+use Rattle.isa_lines.specs.declared.command.Command.{Command}
 use Rattle.isaprove.specs.declared.context.OpenLemma.{OpenLemma}
 use Rattle.isaprove.specs.declared.status.Status.{Status}
 use Rattle.isaprove.specs.declared.status.Status.TheVariants as status
-use Rattle.isa_outer.specs.Words.{lines_of, words_of}
-use Rattle.isa_outer.specs.Commands.{commands_of}
+use Rattle.isa_lines.specs.Words.{lines_of, words_of}
+use Rattle.isa_lines.specs.Commands.{commands_of}
 use Rattle.isaprove.specs.Contexts.{ContextSeen, empty_context}
 use Rattle.isaprove.specs.Steps.{Outcome, Unbuilt, Fails, Takes, Prints, outcome}
 use Rattle.isaprove.specs.Part.{Part, End, Goes, Stops, next, pass, show, stop, at_line}

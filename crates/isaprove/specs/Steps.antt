@@ -17,12 +17,12 @@ use Rattle.isa_goal.specs.Resolving.{results, all_first_order}
 use Rattle.isa_goal.specs.declared.found.Found.{Found}
 use Rattle.isa_goal.specs.declared.found.Found.TheVariants.{Res}
 use Rattle.isaprove.specs.declared.context.OpenLemma.{OpenLemma}
-use Rattle.isa_outer.specs.declared.command.Command.{Command}
-use Rattle.isa_outer.specs.declared.command.Command.TheVariants as command
-use Rattle.isa_outer.specs.Commands.{◌>>=◌}
+use Rattle.isa_lines.specs.declared.command.Command.{Command}
+use Rattle.isa_lines.specs.declared.command.Command.TheVariants as command
+use Rattle.isa_lines.specs.Commands.{◌>>=◌}
 use Rattle.isaprove.specs.Contexts.{ContextSeen, fact_of, judgment_name, signature_of}
-use Rattle.isa_syntax.specs.declared.signature.Variables.TheVariants as variables
-use Rattle.isa_syntax.specs.Inner.{type_of_text, judged_type, prop_of_text}
+use Rattle.isa_texts.specs.declared.signature.Variables.TheVariants as variables
+use Rattle.isa_texts.specs.Inner.{type_of_text, judged_type, prop_of_text}
 use Rattle.isaprove.specs.Piece.{Shown, ShownState, ShownTheorem}
 use Rattle.isa_print.specs.Text.{state_text, theorem_text}
 

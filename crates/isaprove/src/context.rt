@@ -6,7 +6,7 @@ ghost use Rattle.isa_kernel.specs.declared.declarations.Declaration.TheVariants.
 ghost use Rattle.isa_goal.specs.Goals.{started};
 ghost use Rattle.isa_goal.specs.Names.{canon};
 ghost use Rattle.isaprove.specs.Answer.{Answers};
-ghost use Rattle.isa_syntax.specs.Signatures.{seen};
+ghost use Rattle.isa_texts.specs.Signatures.{seen};
 ghost use Rattle.isaprove.specs.Contexts.{empty_context, fact_of, judgment_name, signature_of};
 ghost use Rattle.isaprove.specs.Sound.{RestsOn};
 ghost use Rattle.isaprove.specs.Steps.{declared, with_type, with_constant, with_consts, with_judgment, with_axiom, with_lemma, lemma_with, with_state, matched, finished};
@@ -18,7 +18,7 @@ use crate::refusal::Refusal;
 use isa_goal::State;
 use isa_kernel::{AxiomFail, InferenceError, Theory, TheoryFail, Thm, axiom, prop_type};
 use isa_print::{state_text, theorem_text};
-use isa_syntax::{Judgment, Signature, Variables, judged_type, prop_of_text, type_of_text};
+use isa_texts::{Judgment, Signature, Variables, judged_type, prop_of_text, type_of_text};
 use isa_terms::{Name, Term, Typ, function_type};
 use std::alloc::{AllocError, Global};
 use std::marker::Model;

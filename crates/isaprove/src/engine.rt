@@ -1,21 +1,21 @@
 //! Running the text of a file.
 ghost use Rattle.std.specs.Prelude.{◌≡◌, ◌-◌, ◌^◌, ◌<◌, ◌≤◌, map, length, IfOk, string_bytes};
-ghost use Rattle.isa_outer.specs.Answer.{AnswersBy};
-ghost use Rattle.isa_outer.specs.Commands.{commands_of};
+ghost use Rattle.isa_lines.specs.Answer.{AnswersBy};
+ghost use Rattle.isa_lines.specs.Commands.{commands_of};
 ghost use Rattle.isaprove.specs.Does.{Does, StopsWith, sinks};
-ghost use Rattle.isa_outer.specs.Lines.{line_view};
+ghost use Rattle.isa_lines.specs.Lines.{line_view};
 ghost use Rattle.isaprove.specs.Part.{at_line, stop};
 ghost use Rattle.isaprove.specs.Run.{part_of, close_text, run_command, run_commands, run_line, run_lines, run_text};
 ghost use Rattle.isaprove.specs.Steps.{outcome, declared_by};
 ghost use Rattle.isaprove.specs.Taken.{Becomes, ComesOut};
-ghost use Rattle.isa_outer.specs.Words.{words_of};
+ghost use Rattle.isa_lines.specs.Words.{words_of};
 
 use crate::context::Context;
 use crate::output::{print, report};
 use crate::refusal::Refusal;
 use crate::status::{Status, Stop};
 use isa_io::Sink;
-use isa_outer::{Command, Line, SyntaxError, commands_of, lines_of, words_of};
+use isa_lines::{Command, Line, SyntaxError, commands_of, lines_of, words_of};
 use std::alloc::{AllocError, Global};
 
 /// A message with the place that it speaks of.

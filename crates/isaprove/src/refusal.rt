@@ -1,5 +1,5 @@
 //! Why a command is not taken.
-use isa_outer::SyntaxError;
+use isa_lines::SyntaxError;
 use std::alloc::{AllocError, AllocFailed};
 
 /// Why a command is not taken.

@@ -1,5 +1,5 @@
 use Rattle.std.proofs.Common.{refl, []}
-use Rattle.isa_conversion.proofs.Typed.{typed_of_type}
+use Rattle.isa_terms.proofs.Typed.{typed_of_type}
 use Rattle.isa_goal.proofs.Matches.{matched_sound, grows_same}
 use Rattle.isa_goal.proofs.Completing.{matched_found}
 use Rattle.isa_goal.proofs.laws.matches_are_exact.Goals as goal

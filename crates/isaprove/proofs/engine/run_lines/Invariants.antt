@@ -1,7 +1,7 @@
 use Rattle.std.proofs.Common.{map, drop}
 use Rattle.isaprove.specs.Does.{sinks}
 use Rattle.isaprove.specs.Run.{run_lines}
-use Rattle.isa_outer.specs.Lines.{line_view}
+use Rattle.isa_lines.specs.Lines.{line_view}
 use Rattle.isaprove.proofs.Printing.{SoFar}
 use Rattle.isaprove.proofs.engine.run_lines.Given as goal
 

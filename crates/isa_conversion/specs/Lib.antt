@@ -1,4 +1,0 @@
-pub mod Typed
-pub mod Conversion
-pub mod Instances
-pub mod Laws
