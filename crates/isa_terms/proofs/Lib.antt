@@ -31,3 +31,8 @@ pub mod Abstracting
 pub mod Valuations
 pub mod Measures
 pub mod Pruning
+pub mod Noting
+pub mod HeadsApplied
+pub mod KnownNormal
+pub mod AbstractedParts
+pub mod HeadTyped

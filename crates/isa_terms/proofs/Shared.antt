@@ -49,7 +49,7 @@ raise_zero_bound : (i : ℕ) (b : Bool) → cond b (Bound i) (Bound (i + 0)) ≡
 raise_zero_bound i true = refl
 raise_zero_bound i false = let e : i + 0 ≡ i = omega arith in ap Bound e
 
-zero_raised : (k : ℕ) (t : Tm) → raise 0 k t ≡ t
+pub zero_raised : (k : ℕ) (t : Tm) → raise 0 k t ≡ t
 zero_raised k (Const x T) = refl
 zero_raised k (Free x T) = refl
 zero_raised k (Unknown x i T) = refl

@@ -28,3 +28,8 @@ pub mod Typed
 pub mod Conversion
 pub mod Instances
 pub mod ConversionLaws
+pub mod Spines
+pub mod Unknowns
+pub mod Places
+pub mod Abstraction
+pub mod HeadTypes

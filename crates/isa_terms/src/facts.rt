@@ -108,7 +108,7 @@ fn type_variable_in(node: &TermNode) -> bool
 
 /// Whether the variable `depth` of as many binders is in the term.
 #[tactic(auto, using(crate::proofs::Shared::loose_none))]
-pub(crate) fn is_loose(depth: u32, t: &Term) -> Result<bool, AllocError>
+pub fn is_loose(depth: u32, t: &Term) -> Result<bool, AllocError>
     ensures { IfOk result (λ r. r ≡ loose depth t.now) }
 {
     if t.facts().loose_end <= u64::from(depth) {

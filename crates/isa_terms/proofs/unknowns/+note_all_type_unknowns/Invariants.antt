@@ -1,0 +1,5 @@
+use Rattle.std.proofs.Common.{length}
+use Rattle.isa_terms.proofs.unknowns.+note_all_type_unknowns.Given as goal
+
+abbrev pub decreases-note_all_type_unknowns : goal.decreases-note_all_type_unknowns
+decreases-note_all_type_unknowns l = length l.terms.now
