@@ -15,3 +15,6 @@ head_applied (Unknown x i T) = refl
 head_applied (Bound i) = refl
 head_applied (Abs x T b) = refl
 head_applied (App f a) = applied_to_last (head_of f) (args_of f) a ∙ ap (λ g. App g a) (head_applied f)
+
+pub spine_back : (t h : Tm) (us : List Tm) → h ≡ head_of t → us ≡ args_of t → applied_to h us ≡ t
+spine_back t h us p q = (λ i. applied_to (p i) (q i)) ∙ head_applied t

@@ -36,3 +36,4 @@ pub mod HeadsApplied
 pub mod KnownNormal
 pub mod AbstractedParts
 pub mod HeadTyped
+pub mod Present
