@@ -1,7 +1,9 @@
 use crate::instances::instance;
 use crate::rows::two_terms;
 use isa_sketch::{Bench, Fault};
-use isa_terms::{Name, Names, Term, TermNode, closed, gen_term, instantiate, norm, replaced};
+use isa_terms::{
+    Name, Names, Term, TermNode, abstracted, closed, gen_term, instantiate, norm, replaced,
+};
 use std::alloc::Global;
 
 /// The term that the call makes.
@@ -10,6 +12,7 @@ pub fn made(alloc: Global, bench: &Bench, verb: &str, rest: &str) -> Result<Term
         "norm" => normal(alloc, bench, rest),
         "replaced" => body_with(alloc, bench, rest),
         "closed" => body_over(alloc, bench, rest),
+        "abstracted" => body_over_part(alloc, bench, rest),
         "gen_term" => general(alloc, bench, rest),
         "instantiate" => instance_of(alloc, bench, rest),
         _ => Err(Fault::Words),
@@ -34,6 +37,12 @@ fn body_over(alloc: Global, bench: &Bench, rest: &str) -> Result<Term, Fault> {
         TermNode::Free(name, typ) => Ok(closed(alloc, name, typ, &t)?),
         _ => Err(Fault::Words),
     }
+}
+
+/// Of a part and a term, as `T , U`.
+fn body_over_part(alloc: Global, bench: &Bench, rest: &str) -> Result<Term, Fault> {
+    let (part, t) = two_terms(alloc, bench, rest)?;
+    Ok(abstracted(alloc, &part, &t)?)
 }
 
 /// Of names and a term, as `NAME NAME , T`.

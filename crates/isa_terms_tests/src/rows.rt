@@ -1,7 +1,7 @@
 use crate::instances::entries_row;
 use crate::lists::lists_row;
 use crate::making::made;
-use crate::telling::{compare_row, pattern_row, same_row, size_row};
+use crate::telling::{compare_row, greatest_row, pattern_row, same_row, size_row};
 use crate::typing::type_row;
 use isa_sketch::{Bench, Fault, is_word, split};
 use isa_terms::{Term, same_term};
@@ -27,6 +27,7 @@ fn call_row(alloc: Global, bench: &Bench, wanted: &str, call: &str) -> Result<bo
         "same" => same_row(alloc, bench, wanted, rest),
         "is_pattern" => pattern_row(alloc, bench, wanted, rest),
         "size" => size_row(alloc, bench, wanted, rest),
+        "greatest" => greatest_row(alloc, bench, wanted, rest),
         "entries" => entries_row(alloc, bench, wanted, rest),
         "lists" => lists_row(alloc, bench, wanted, rest),
         _ => makes(alloc, bench, wanted, verb, rest),

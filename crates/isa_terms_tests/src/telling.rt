@@ -1,6 +1,6 @@
 use crate::rows::{is_answer, two_terms};
 use isa_sketch::{Bench, Fault, is_word, number};
-use isa_terms::{compare_terms, is_pattern, same_term, size};
+use isa_terms::{compare_terms, greatest_number, is_pattern, same_term, size};
 use std::alloc::Global;
 use std::cmp::Ordering;
 
@@ -34,4 +34,14 @@ pub fn pattern_row(alloc: Global, bench: &Bench, wanted: &str, rest: &str) -> Re
 pub fn size_row(alloc: Global, bench: &Bench, wanted: &str, rest: &str) -> Result<bool, Fault> {
     let t = bench.term(alloc, rest)?;
     Ok(size(&t) == number(wanted)? as u64)
+}
+
+/// Whether the greatest number of an unknown or a type unknown of the term is the wanted one, or there is none, as it is
+/// wanted.
+pub fn greatest_row(alloc: Global, bench: &Bench, wanted: &str, rest: &str) -> Result<bool, Fault> {
+    let t = bench.term(alloc, rest)?;
+    match greatest_number(&t) {
+        None => Ok(is_word(wanted, "none")),
+        Some(greatest) => Ok(greatest as usize == number(wanted)?),
+    }
 }
