@@ -3,7 +3,7 @@ use Rattle.std.proofs.Common.{◌≡◌, ℕ, zero, suc, ◌+◌, ◌-◌, ◌�
 use Rattle.isa_seq.specs.declared.event.Event.{Event}
 use Rattle.isa_seq.specs.declared.event.Event.TheVariants.{Tick, Outside, Res}
 use Rattle.isa_seq.specs.Traces.{Trace, IsTrace, cut, event, then_each}
-use Rattle.isa_seq.specs.Meaning.{Meaning, IsMeaning, is_solved}
+use Rattle.isa_seq.specs.Meaning.{Primitives, AreLawful, is_solved}
 use Rattle.isa_seq.specs.Tactics.{trace}
 use Rattle.isa_seq.specs.Laws.{IsBeginning, ShowsBeginnings, ThenIsAssociative, GiveTraces, AreTraces, Pulls, ResumedGivesTheRest}
 use Rattle.isa_seq.proofs.Cuts.{cut-cut}
@@ -31,10 +31,10 @@ shows-beginning x h n k l =
     let c : cut n (x k) ≡ x n = ap (λ z. cut n (x z)) (sym e) ∙ cut-more x h n (k - n) in
     subst (λ z. IsBeginning z (x k)) c (cut-is_beginning n (x k))
 
-pub shows-beginnings : {S P : Type 0} (m : Meaning S P) → IsMeaning m → ShowsBeginnings m
+pub shows-beginnings : {S P : Type 0} (m : Primitives S P) → AreLawful m → ShowsBeginnings m
 shows-beginnings m h t s i n k l = shows-beginning (trace m t s i) (trace-is_trace m h t s i) n k l
 
-pub then-associative : {S P : Type 0} (m : Meaning S P) → ThenIsAssociative m
+pub then-associative : {S P : Type 0} (m : Primitives S P) → ThenIsAssociative m
 unfolding trace
 then-associative m t u v tu uv e e' s i =
     ap (λ z. then_each (trace m z s i) (λ r. trace m v.node.value r i)) e
@@ -55,11 +55,11 @@ give-traces S = record {
   of_collect = λ x g h k n. collect-steps x g n (h n) (λ rs. k rs n);
 }
 
-pub are-traces : {S P : Type 0} (m : Meaning S P) → IsMeaning m → AreTraces m
+pub are-traces : {S P : Type 0} (m : Primitives S P) → AreLawful m → AreTraces m
 are-traces m h = record {
   expressions = λ t s i. trace-is_trace m h t s i;
   depth_first = λ f s k n. deepen-steps (is_solved m) f k n s;
-  best_first = λ f list k n. best_first-steps m f k n list;
+  best_first = λ f list k n. best_first-steps m h f k n list;
 }
 
 abbrev head_or : {S : Type 0} → Event S → List (Event S) → Event S

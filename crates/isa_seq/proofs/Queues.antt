@@ -1,10 +1,13 @@
 -- States by measure and age: what is added comes last, and what is taken is the least.
-use Rattle.std.proofs.Common.{◌≡◌, ℕ, ◌≤◌, ◌<◌, ◌||◌, ◌⊎◌, inl, inr, nat_lt, Bool, true, false, if◌then◌else◌, Option, Some, None, IfSome, IfNone, Result, Ok, Err, OnOk, OnErr, List, [], ◌∷◌, ◌++◌, map, refl, sym, ◌∙◌, ap, subst, arith}
+use Rattle.std.proofs.Common.{◌≡◌, ℕ, ◌≤◌, ◌<◌, ◌==◌, ◌||◌, ◌&&◌, not, ◌⊎◌, inl, inr, nat_lt, Bool, true, false, if◌then◌else◌, Option, Some, None, IfSome, IfNone, Result, Ok, Err, OnOk, OnErr, List, [], ◌∷◌, ◌++◌, map, refl, sym, ◌∙◌, ap, subst, arith}
 use Rattle.std.specs.Prelude.{All}
 use Rattle.std.specs.declared.cmp.Ordering.{Ordering}
 use Rattle.std.specs.declared.cmp.Ordering.TheVariants.{Less, Equal, Greater}
 use Rattle.std.specs.Ordering.{nat_cmp, ordering_then, match_ordering}
+use Rattle.std.specs.Ordering.{is_le, is_gt}
+use Rattle.std.specs.declared.ops.Bound.TheVariants.{Included, Excluded}
 use Rattle.std.specs.BTreeMap.{insert_entry}
+use Rattle.std.specs.BTreeMap.Range.{range_contains, entries_between}
 use Rattle.std.specs.Map.{keys_of, values_of}
 use Rattle.std.specs.List.{AllByRecursion}
 use Rattle.std.proofs.lemmas.Cmp.{ranked}
@@ -12,8 +15,8 @@ use Rattle.std.proofs.lemmas.Bool.Decides.{nat_tests}
 use Rattle.std.proofs.lemmas.List.Elements.{recursion_from_All, All-weaker, All-rest}
 use Rattle.std.proofs.lemmas.Map.Views.{All-keys-insert_entry}
 use Rattle.isa_seq.specs.Searches.{least, has_same}
-use Rattle.isa_seq.specs.Meaning.{Meaning}
-use Rattle.isa_seq.specs.Queues.{put_by_age, by_age, waiting, enqueued, Takes}
+use Rattle.isa_seq.specs.Meaning.{Primitives}
+use Rattle.isa_seq.specs.Queues.{put_by_age, by_age, waiting, of_measure, enqueued, Takes}
 
 abbrev pub Entry : Type 0 → Type 0
 Entry S = (ℕ × ℕ) × S
@@ -169,18 +172,92 @@ swap_or true false c = refl
 swap_or false true c = refl
 swap_or false false c = refl
 
-has_same-put : {S : Type 0} (same : S → S → Bool) (r : S) (e : Entry S) (es : List (Entry S)) →
-    has_same same r (map (λ y. y.1) (map entry_of (put_by_age e es))) ≡ (same r e.1 || has_same same r (map (λ y. y.1) (map entry_of es)))
-has_same-put same r e [] = refl
-has_same-put {S} same r e (d ∷ es) = choose (nat_lt e.0.1 d.0.1) (has_same-put same r e es)
-  where
-    choose : (b : Bool) → has_same same r (map (λ y. y.1) (map entry_of (put_by_age e es))) ≡ (same r e.1 || has_same same r (map (λ y. y.1) (map entry_of es))) → has_same same r (map (λ y. y.1) (map entry_of (if b then e ∷ d ∷ es else d ∷ put_by_age e es))) ≡ (same r e.1 || (same r d.1 || has_same same r (map (λ y. y.1) (map entry_of es))))
-    choose true j = refl
-    choose false j = ap (λ z. same r d.1 || z) j ∙ swap_or (same r e.1) (same r d.1) (has_same same r (map (λ y. y.1) (map entry_of es)))
+-- x before y where b holds, and otherwise y alone
+abbrev hit : Bool → Bool → Bool → Bool
+hit true x y = x || y
+hit false x y = y
 
-pub has_same-waiting : {S : Type 0} (same : S → S → Bool) (r : S) (es : List (Entry S)) → has_same same r (map (λ y. y.1) (waiting es)) ≡ has_same same r (values_of es)
-has_same-waiting same r [] = refl
-has_same-waiting same r (e ∷ es) = has_same-put same r e (by_age es) ∙ ap (λ z. same r e.1 || z) (has_same-waiting same r es)
+hit-swap : (b c x y z : Bool) → hit b x (hit c y z) ≡ hit c y (hit b x z)
+hit-swap true true x y z = swap_or y x z
+hit-swap true false x y z = refl
+hit-swap false true x y z = refl
+hit-swap false false x y z = refl
+
+has_same-choice : {S : Type 0} (same : S → S → Bool) (r : S) (b : Bool) (s : S) (list : List S) → has_same same r (if b then s ∷ list else list) ≡ hit b (same r s) (has_same same r list)
+has_same-choice same r true s list = refl
+has_same-choice same r false s list = refl
+
+has_same-put : {S : Type 0} (same : S → S → Bool) (r : S) (n : ℕ) (e : Entry S) (es : List (Entry S)) →
+    has_same same r (of_measure n (map entry_of (put_by_age e es))) ≡ hit (e.0.0 == n) (same r e.1) (has_same same r (of_measure n (map entry_of es)))
+has_same-put same r n e [] = has_same-choice same r (e.0.0 == n) e.1 []
+has_same-put {S} same r n e (d ∷ es) = choose (nat_lt e.0.1 d.0.1) (has_same-put same r n e es)
+  where
+    choose : (b : Bool) → has_same same r (of_measure n (map entry_of (put_by_age e es))) ≡ hit (e.0.0 == n) (same r e.1) (has_same same r (of_measure n (map entry_of es))) →
+        has_same same r (of_measure n (map entry_of (if b then e ∷ d ∷ es else d ∷ put_by_age e es))) ≡ hit (e.0.0 == n) (same r e.1) (has_same same r (of_measure n (map entry_of (d ∷ es))))
+    choose true j = has_same-choice same r (e.0.0 == n) e.1 (of_measure n (map entry_of (d ∷ es)))
+    choose false j =
+        has_same-choice same r (d.0.0 == n) d.1 (of_measure n (map entry_of (put_by_age e es)))
+        ∙ ap (hit (d.0.0 == n) (same r d.1)) j
+        ∙ hit-swap (d.0.0 == n) (e.0.0 == n) (same r d.1) (same r e.1) (has_same same r (of_measure n (map entry_of es)))
+        ∙ ap (hit (e.0.0 == n) (same r e.1)) (sym (has_same-choice same r (d.0.0 == n) d.1 (of_measure n (map entry_of es))))
+
+is_equal : (a b : ℕ) → a ≡ b → (b == a) ≡ true
+is_equal a b h = grind (arith, nat_tests)
+
+is_below : (a b : ℕ) → a < b → (b == a) ≡ false
+is_below a b h = grind (arith, nat_tests)
+
+is_above : (a b : ℕ) → b < a → (b == a) ≡ false
+is_above a b h = grind (arith, nat_tests)
+
+-- the keys of a measure
+abbrev of_keys : ℕ → ℕ → ℕ × ℕ → Bool
+of_keys n age k = range_contains key_cmp (Included (n, 0)) (Excluded (n, age)) k
+
+least_age : (o : Ordering) (a : ℕ) → o ≡ nat_cmp 0 a → is_le o ≡ true
+least_age Less a h = refl
+least_age Equal a h = refl
+least_age Greater a h = absurd (let l = ranked 0 a Greater h in omega (arith, l))
+
+past_age : (o : Ordering) (age a : ℕ) → a < age → o ≡ nat_cmp age a → is_le o ≡ false
+past_age Less age a l h = absurd (let k = ranked age a Less h in omega (arith, k, l))
+past_age Equal age a l h = absurd (let k = ranked age a Equal h in omega (arith, k, l))
+past_age Greater age a l h = refl
+
+in-range : (n age : ℕ) (k : ℕ × ℕ) → k.1 < age → of_keys n age k ≡ (k.0 == n)
+in-range n age k l = choose (nat_cmp n k.0) refl
+  where
+    choose : (o : Ordering) → o ≡ nat_cmp n k.0 → (is_le (ordering_then o (nat_cmp 0 k.1)) && not (is_le (ordering_then o (nat_cmp age k.1)))) ≡ (k.0 == n)
+    choose Less h = sym (is_below n k.0 (ranked n k.0 Less h))
+    choose Equal h =
+        ap (λ z. z && not (is_le (nat_cmp age k.1))) (least_age (nat_cmp 0 k.1) k.1 refl) ∙ ap not (past_age (nat_cmp age k.1) age k.1 l refl)
+        ∙ sym (is_equal n k.0 (ranked n k.0 Equal h))
+    choose Greater h = sym (is_above n k.0 (ranked n k.0 Greater h))
+
+-- Of the states that wait those of a measure are asked, by the keys of that measure.
+pub has_same-of_measure : {S : Type 0} (same : S → S → Bool) (r : S) (n age : ℕ) (es : List (Entry S)) → AllByRecursion (λ q. q.1 < age) (keys_of es) →
+    has_same same r (of_measure n (waiting es)) ≡ has_same same r (values_of (entries_between key_cmp (Included (n, 0)) (Excluded (n, age)) es))
+has_same-of_measure same r n age [] h = refl
+has_same-of_measure {S} same r n age (e ∷ es) h =
+    has_same-put same r n e (by_age es) ∙ ap (hit (e.0.0 == n) (same r e.1)) (has_same-of_measure same r n age es h.1)
+    ∙ choose (e.0.0 == n) ∙ ap (λ b. has_same same r (values_of (if b then e ∷ others else others))) (sym (in-range n age e.0 h.0))
+  where
+    others : List (Entry S)
+    others = entries_between key_cmp (Included (n, 0)) (Excluded (n, age)) es
+
+    choose : (b : Bool) → hit b (same r e.1) (has_same same r (values_of others)) ≡ has_same same r (values_of (if b then e ∷ others else others))
+    choose true = refl
+    choose false = refl
+
+pub forward : (n age : ℕ) → is_gt (key_cmp (n, 0) (n, age)) ≡ false
+forward n age = choose (nat_cmp n n) refl (nat_cmp 0 age) refl
+  where
+    choose : (o : Ordering) → o ≡ nat_cmp n n → (p : Ordering) → p ≡ nat_cmp 0 age → is_gt (ordering_then o p) ≡ false
+    choose Less h p k = refl
+    choose Greater h p k = absurd (let l = ranked n n Greater h in omega (arith, l))
+    choose Equal h Less k = refl
+    choose Equal h Equal k = refl
+    choose Equal h Greater k = absurd (let l = ranked 0 age Greater k in omega (arith, l))
 
 pub still-older : {S T E : Type 0} (o : Result T E) (es new : List (Entry S)) (n m k : ℕ) (s : S) → n < m → All (λ q. q.1 < n) (keys_of es) → OnOk o (new ≡ insert_entry key_cmp es (k, n) s) → OnErr o (new ≡ es) → All (λ q. q.1 < m) (keys_of new)
 still-older {S} (Ok x) es new n m k s l h ok err =
@@ -193,16 +270,18 @@ pub older-popped : {S : Type 0} (o : Option (Entry S)) (es new : List (Entry S))
 older-popped (Some p) es new n h some none = All-rest (λ (q : ℕ × ℕ). q.1 < n) p.0 (keys_of new) (keys_of es) (ap keys_of some) h
 older-popped None es new n h some none = subst (λ z. All (λ q. q.1 < n) (keys_of z)) (sym none) h
 
-pub offered-same : {S P : Type 0} (m : Meaning S P) (r : S) (es : List (Entry S)) → has_same m.same r (values_of es) ≡ true → waiting es ≡ enqueued m (waiting es) (r ∷ [])
-offered-same m r es h = sym (ap (λ z. if z then waiting es else waiting es ++ (m.measure r, r) ∷ []) (has_same-waiting m.same r es ∙ h))
+pub offered-same : {S P : Type 0} (m : Primitives S P) (r : S) (n : ℕ) (es : List (Entry S)) → n ≡ m.measure r → has_same m.same r (of_measure n (waiting es)) ≡ true → waiting es ≡ enqueued m (waiting es) (r ∷ [])
+offered-same m r n es e h =
+    sym (ap (λ z. if z then waiting es else waiting es ++ (m.measure r, r) ∷ []) (ap (λ z. has_same m.same r (of_measure z (waiting es))) (sym e) ∙ h))
 
-pub offered-new : {S P : Type 0} (m : Meaning S P) (r : S) (n : ℕ) (es new : List (Entry S)) → has_same m.same r (values_of es) ≡ false → n ≡ m.measure r → waiting new ≡ waiting es ++ (n, r) ∷ [] → waiting new ≡ enqueued m (waiting es) (r ∷ [])
+pub offered-new : {S P : Type 0} (m : Primitives S P) (r : S) (n : ℕ) (es new : List (Entry S)) → has_same m.same r (of_measure n (waiting es)) ≡ false → n ≡ m.measure r → waiting new ≡ waiting es ++ (n, r) ∷ [] → waiting new ≡ enqueued m (waiting es) (r ∷ [])
 offered-new m r n es new h e k =
-    k ∙ ap (λ z. waiting es ++ (z, r) ∷ []) e ∙ sym (ap (λ z. if z then waiting es else waiting es ++ (m.measure r, r) ∷ []) (has_same-waiting m.same r es ∙ h))
+    k ∙ ap (λ z. waiting es ++ (z, r) ∷ []) e
+    ∙ sym (ap (λ z. if z then waiting es else waiting es ++ (m.measure r, r) ∷ []) (ap (λ z. has_same m.same r (of_measure z (waiting es))) (sym e) ∙ h))
 
 pub OnOk-map : {T E : Type 0} (o : Result T E) (Q R : Type 0) → OnOk o Q → (Q → R) → OnOk o R
 OnOk-map (Ok x) Q R h k = k h
 OnOk-map (Err e) Q R h k = tt
 
-pub one-waiting : {S P : Type 0} (m : Meaning S P) (n : ℕ) (s : S) (es new : List (Entry S)) → waiting es ≡ [] → n ≡ m.measure s → waiting new ≡ waiting es ++ (n, s) ∷ [] → waiting new ≡ (m.measure s, s) ∷ []
+pub one-waiting : {S P : Type 0} (m : Primitives S P) (n : ℕ) (s : S) (es new : List (Entry S)) → waiting es ≡ [] → n ≡ m.measure s → waiting new ≡ waiting es ++ (n, s) ∷ [] → waiting new ≡ (m.measure s, s) ∷ []
 one-waiting m n s es new h e k = k ∙ ap (λ z. z ++ (n, s) ∷ []) h ∙ ap (λ z. (z, s) ∷ []) e

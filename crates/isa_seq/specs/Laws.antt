@@ -5,7 +5,7 @@ use Rattle.isa_seq.specs.declared.tac.Tac.{Tac}
 use Rattle.isa_seq.specs.declared.tac.TacNode.{TacNode}
 use Rattle.isa_seq.specs.declared.tac.TacNode.TheVariants.{Then}
 use Rattle.isa_seq.specs.Traces.{Trace, IsTrace, nothing, event, append, then_each, or_else, first, repeat, deepen, upward, downward, Answers}
-use Rattle.isa_seq.specs.Meaning.{Meaning, is_solved}
+use Rattle.isa_seq.specs.Meaning.{Primitives, is_solved}
 use Rattle.isa_seq.specs.Searches.{collect, best_first}
 use Rattle.isa_seq.specs.Tactics.{trace}
 
@@ -14,11 +14,11 @@ abbrev pub IsBeginning : {X : Type 0} → List X → List X → Type 0
 IsBeginning {X} xs ys = (zs : List X) × (ys ≡ xs ++ zs)
 
 -- Of the trace of each expression, what is seen with fewer ticks is the beginning of what is seen with more.
-abbrev pub ShowsBeginnings : {S P : Type 0} → Meaning S P → Type 0
+abbrev pub ShowsBeginnings : {S P : Type 0} → Primitives S P → Type 0
 ShowsBeginnings {S} {P} m = (t : TacNode P) (s : S) (i n k : ℕ) → n ≤ k → IsBeginning (trace m t s i n) (trace m t s i k)
 
 -- Of three expressions it doesn't matter which two are taken together first.
-abbrev pub ThenIsAssociative : {S P : Type 0} → Meaning S P → Type 0
+abbrev pub ThenIsAssociative : {S P : Type 0} → Primitives S P → Type 0
 ThenIsAssociative {S} {P} m =
     (t u v tu uv : Tac P) → tu.node.value ≡ Then t u → uv.node.value ≡ Then u v → (s : S) (i : ℕ) → trace m (Then tu v) s i ≡ trace m (Then t uv) s i
 
@@ -36,7 +36,7 @@ pub record GiveTraces (S : Type 0) : Type 0 where
   pub of_collect : (x : Trace S) (g : List S → Trace S) → IsTrace x → ((rs : List S) → IsTrace (g rs)) → IsTrace (collect x g)
 
 -- what expressions and searches give are traces
-pub record AreTraces {S P : Type 0} (m : Meaning S P) : Type 0 where
+pub record AreTraces {S P : Type 0} (m : Primitives S P) : Type 0 where
   pub expressions : (t : TacNode P) (s : S) (i : ℕ) → IsTrace (trace m t s i)
   pub depth_first : (f : S → Trace S) (s : S) → ((r : S) → IsTrace (f r)) → IsTrace (deepen (is_solved m) f s)
   pub best_first : (f : S → Trace S) (list : List S) → ((r : S) → IsTrace (f r)) → IsTrace (best_first m f list)

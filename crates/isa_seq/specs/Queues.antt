@@ -1,8 +1,8 @@
 -- A list of states with their measures, as a map by measure and age keeps it.
-use Rattle.std.specs.Prelude.{◌≡◌, ℕ, zero, suc, nat_lt, if◌then◌else◌, List, [], ◌∷◌, ◌++◌, map}
+use Rattle.std.specs.Prelude.{◌≡◌, ℕ, zero, suc, ◌==◌, nat_lt, if◌then◌else◌, List, [], ◌∷◌, ◌++◌, map}
 use Rattle.isa_seq.specs.declared.event.Event.TheVariants.{Tick, Res}
 use Rattle.isa_seq.specs.Traces.{Trace, event}
-use Rattle.isa_seq.specs.Meaning.{Meaning, is_solved}
+use Rattle.isa_seq.specs.Meaning.{Primitives, is_solved}
 use Rattle.isa_seq.specs.Searches.{least, has_same, collect}
 
 -- an entry put in front of the first younger one; a key is a measure and an age
@@ -18,13 +18,18 @@ by_age (e ∷ entries) = put_by_age e (by_age entries)
 abbrev pub waiting : {S : Type 0} → List ((ℕ × ℕ) × S) → List (ℕ × S)
 waiting entries = map (λ e. (e.0.0, e.1)) (by_age entries)
 
--- states added with their measures
-abbrev pub enqueued : {S P : Type 0} → Meaning S P → List (ℕ × S) → List S → List (ℕ × S)
+-- the states of this measure
+abbrev pub of_measure : {S : Type 0} → ℕ → List (ℕ × S) → List S
+of_measure n [] = []
+of_measure n (e ∷ list) = if e.0 == n then e.1 ∷ of_measure n list else of_measure n list
+
+-- States added with their measures, but none that is the same as one that is there, of which only those of its measure are asked.
+abbrev pub enqueued : {S P : Type 0} → Primitives S P → List (ℕ × S) → List S → List (ℕ × S)
 enqueued m list [] = list
-enqueued m list (r ∷ rs) = enqueued m (if has_same m.same r (map (λ e. e.1) list) then list else list ++ (m.measure r, r) ∷ []) rs
+enqueued m list (r ∷ rs) = enqueued m (if has_same m.same r (of_measure (m.measure r) list) then list else list ++ (m.measure r, r) ∷ []) rs
 
 -- the search over states with their measures
-unfoldable pub best_of : {S P : Type 0} → Meaning S P → (S → Trace S) → List (ℕ × S) → Trace S
+unfoldable pub best_of : {S P : Type 0} → Primitives S P → (S → Trace S) → List (ℕ × S) → Trace S
 best_of m f list zero = []
 best_of m f [] (suc n) = []
 best_of m f (e ∷ list) (suc n) =

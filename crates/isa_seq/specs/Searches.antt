@@ -3,7 +3,7 @@ use Rattle.std.specs.Prelude.{ℕ, zero, suc, ◌||◌, nat_lt, Bool, false, if�
 use Rattle.isa_seq.specs.declared.event.Event.{Event}
 use Rattle.isa_seq.specs.declared.event.Event.TheVariants.{Tick, Outside, Res}
 use Rattle.isa_seq.specs.Traces.{Trace, cut, event}
-use Rattle.isa_seq.specs.Meaning.{Meaning, is_solved}
+use Rattle.isa_seq.specs.Meaning.{Primitives, is_solved}
 
 -- of a list that begins with s, the first of those that are least by their number, and the others in order
 abbrev pub least : {S : Type 0} → (S → ℕ) → S → List S → S × List S
@@ -40,7 +40,7 @@ collect x g n = cut n (without_results (x n) ++ g (results_of (x n)) n)
 
 -- The states that wait stand in a list, the oldest first. The least by measure is taken, of equals the oldest, and then comes Tick.
 -- If it is solved, it is a result; otherwise the results of f on it are added. So it goes on until no state waits.
-unfoldable pub best_first : {S P : Type 0} → Meaning S P → (S → Trace S) → List S → Trace S
+unfoldable pub best_first : {S P : Type 0} → Primitives S P → (S → Trace S) → List S → Trace S
 best_first m f list zero = []
 best_first m f [] (suc n) = []
 best_first m f (s ∷ list) (suc n) =

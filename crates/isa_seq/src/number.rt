@@ -1,4 +1,4 @@
-// Numbers of subgoals.
+//! Numbers of subgoals.
 #![tactic(auto)]
 
 ghost use Rattle.std.specs.Prelude.{◌<◌, ◌≡◌};

@@ -1,11 +1,10 @@
-// The states that wait in a search.
+//! The states that wait in a search.
 #![tactic(auto)]
 
 ghost use Rattle.std.specs.Prelude.{◌≡◌, ◌<◌, ◌++◌, ◌∷◌, [], OnOk, IfOk, IfSome, IfNone, All, None};
 ghost use Rattle.std.specs.BTreeMap.{keys};
-ghost use Rattle.std.specs.Map.{values_of};
 ghost use Rattle.isa_seq.specs.Searches.{has_same};
-ghost use Rattle.isa_seq.specs.Queues.{waiting, enqueued, Takes};
+ghost use Rattle.isa_seq.specs.Queues.{waiting, of_measure, enqueued, Takes};
 
 use crate::prims::Prims;
 use std::alloc::{AllocError, Global};
@@ -53,11 +52,11 @@ impl<S: Drop> Queue<S> {
     }
 }
 
-/// Whether a state is the same as one that waits.
-fn holds<R: Prims>(prims: &R, queue: &Queue<R::State>, state: &R::State) -> bool
-    ensures { result ≡ has_same (R.meaning prims.now).same state.now (values_of queue.now.states.entries) }
+/// Whether a state of this measure is the same as one that waits. Only those of its measure are asked: no other one can be.
+fn holds<R: Prims>(prims: &R, queue: &Queue<R::State>, measure: u64, state: &R::State) -> bool
+    ensures { result ≡ has_same (R.meaning prims.now).primitives.same state.now (of_measure measure (waiting queue.now.states.entries)) }
 {
-    for other in queue.states.values() {
+    for (_, other) in queue.states.range((measure, 0)..(measure, queue.age)) {
         if prims.same(state, other) {
             return true;
         }
@@ -71,10 +70,11 @@ pub fn offer<R: Prims>(
     queue: &mut Queue<R::State>,
     state: R::State,
 ) -> Result<(), AllocError>
-    ensures { let m = R.meaning prims.now in OnOk result (waiting queue.new.states.entries ≡ enqueued m (waiting queue.old.states.entries) (state ∷ [])) }
+    ensures { let m = (R.meaning prims.now).primitives in OnOk result (waiting queue.new.states.entries ≡ enqueued m (waiting queue.old.states.entries) (state ∷ [])) }
 {
-    if holds(prims, queue, &state) {
+    let measure = prims.measure(&state);
+    if holds(prims, queue, measure, &state) {
         return Ok(());
     }
-    queue.push(prims.measure(&state), state)
+    queue.push(measure, state)
 }

@@ -1,10 +1,8 @@
-// How each kind of method expression starts on a state, at a number: the frames that it pushes.
+//! How each kind of method expression starts on a state, at a number: the frames that it pushes.
 #![tactic(auto)]
 
 ghost use Rattle.std.specs.Prelude.{IfOk};
-ghost use Rattle.isa_seq.specs.Tactics.{trace};
-ghost use Rattle.isa_seq.specs.Work.{cost};
-ghost use Rattle.isa_seq.specs.Steps.{Starts};
+ghost use Rattle.isa_seq.specs.Steps.{StartsNode};
 
 use crate::event::Event;
 use crate::frame::{Frame, Place};
@@ -22,7 +20,7 @@ pub(crate) fn start_solved<R: Prims>(
     state: R::State,
     number: usize,
 ) -> Result<Option<Event<R::State>>, AllocError>
-    ensures { let m = R.meaning prims.now in IfOk result (Starts m (R.rest prims.now) (R.fits prims.now) frames.old.items frames.new.items (trace m TacNode.Solved state number) (cost m TacNode.Solved state number)) }
+    ensures { IfOk result (StartsNode (R.meaning prims.now) TacNode.Solved state number frames.old.items frames.new.items) }
 {
     if prims.subgoals(&state) == 0 {
         return Ok(Some(Event::Res(state)));
@@ -32,14 +30,14 @@ pub(crate) fn start_solved<R: Prims>(
 
 /// A run of a primitive.
 pub(crate) fn start_goal<R: Prims>(
-    prims: &R,
     alloc: Global,
+    prims: &R,
     frames: &mut Frames<R>,
     prim: &R::Prim,
     state: R::State,
     number: usize,
 ) -> Result<Option<Event<R::State>>, AllocError>
-    ensures { let m = R.meaning prims.now in IfOk result (Starts m (R.rest prims.now) (R.fits prims.now) frames.old.items frames.new.items (trace m (TacNode.Goal prim.now) state number) (cost m (TacNode.Goal prim.now) state number)) }
+    ensures { IfOk result (StartsNode (R.meaning prims.now) (TacNode.Goal prim.now) state number frames.old.items frames.new.items) }
 {
     let run = prims.begin(alloc, prim, &state, number)?;
     frames.push(Frame::Running(run))?;
@@ -55,7 +53,7 @@ pub(crate) fn start_then<R: Prims>(
     state: R::State,
     number: usize,
 ) -> Result<Option<Event<R::State>>, AllocError>
-    ensures { let m = R.meaning _prims.now in IfOk result (Starts m (R.rest _prims.now) (R.fits _prims.now) frames.old.items frames.new.items (trace m (TacNode.Then first.now next.now) state number) (cost m (TacNode.Then first.now next.now) state number)) }
+    ensures { IfOk result (StartsNode (R.meaning _prims.now) (TacNode.Then first.now next.now) state number frames.old.items frames.new.items) }
 {
     frames.push(Frame::Each(next.at(number)?))?;
     frames.push(Frame::Call(first.at(number)?, state))?;
@@ -64,15 +62,15 @@ pub(crate) fn start_then<R: Prims>(
 
 /// The first, and the second behind it as the alternative.
 pub(crate) fn start_or_else<R: Prims>(
-    prims: &R,
     alloc: Global,
+    prims: &R,
     frames: &mut Frames<R>,
     first: &Tac<R::Prim>,
     other: &Tac<R::Prim>,
     state: R::State,
     number: usize,
 ) -> Result<Option<Event<R::State>>, AllocError>
-    ensures { let m = R.meaning prims.now in IfOk result (Starts m (R.rest prims.now) (R.fits prims.now) frames.old.items frames.new.items (trace m (TacNode.OrElse first.now other.now) state number) (cost m (TacNode.OrElse first.now other.now) state number)) }
+    ensures { IfOk result (StartsNode (R.meaning prims.now) (TacNode.OrElse first.now other.now) state number frames.old.items frames.new.items) }
 {
     let copy = prims.copy(alloc, &state)?;
     frames.push(Frame::Else(other.at(number)?, copy))?;
@@ -82,15 +80,15 @@ pub(crate) fn start_or_else<R: Prims>(
 
 /// The first, and the second behind it.
 pub(crate) fn start_append<R: Prims>(
-    prims: &R,
     alloc: Global,
+    prims: &R,
     frames: &mut Frames<R>,
     first: &Tac<R::Prim>,
     other: &Tac<R::Prim>,
     state: R::State,
     number: usize,
 ) -> Result<Option<Event<R::State>>, AllocError>
-    ensures { let m = R.meaning prims.now in IfOk result (Starts m (R.rest prims.now) (R.fits prims.now) frames.old.items frames.new.items (trace m (TacNode.Append first.now other.now) state number) (cost m (TacNode.Append first.now other.now) state number)) }
+    ensures { IfOk result (StartsNode (R.meaning prims.now) (TacNode.Append first.now other.now) state number frames.old.items frames.new.items) }
 {
     let copy = prims.copy(alloc, &state)?;
     frames.push(Frame::Call(other.at(number)?, copy))?;
@@ -100,14 +98,14 @@ pub(crate) fn start_append<R: Prims>(
 
 /// The expression, and the state itself behind it as the alternative.
 pub(crate) fn start_try<R: Prims>(
-    prims: &R,
     alloc: Global,
+    prims: &R,
     frames: &mut Frames<R>,
     body: &Tac<R::Prim>,
     state: R::State,
     number: usize,
 ) -> Result<Option<Event<R::State>>, AllocError>
-    ensures { let m = R.meaning prims.now in IfOk result (Starts m (R.rest prims.now) (R.fits prims.now) frames.old.items frames.new.items (trace m (TacNode.Try body.now) state number) (cost m (TacNode.Try body.now) state number)) }
+    ensures { IfOk result (StartsNode (R.meaning prims.now) (TacNode.Try body.now) state number frames.old.items frames.new.items) }
 {
     let copy = prims.copy(alloc, &state)?;
     frames.push(Frame::Else(body.to(Place::Downward(0))?, copy))?;
@@ -123,7 +121,7 @@ pub(crate) fn start_first_goal<R: Prims>(
     state: R::State,
     number: usize,
 ) -> Result<Option<Event<R::State>>, AllocError>
-    ensures { let m = R.meaning prims.now in IfOk result (Starts m (R.rest prims.now) (R.fits prims.now) frames.old.items frames.new.items (trace m (TacNode.FirstGoal body.now) state number) (cost m (TacNode.FirstGoal body.now) state number)) }
+    ensures { IfOk result (StartsNode (R.meaning prims.now) (TacNode.FirstGoal body.now) state number frames.old.items frames.new.items) }
 {
     let last = prims.subgoals(&state);
     frames.push(Frame::Call(body.to(Place::Upward(1, last))?, state))?;
@@ -138,7 +136,7 @@ pub(crate) fn start_all_goals<R: Prims>(
     state: R::State,
     number: usize,
 ) -> Result<Option<Event<R::State>>, AllocError>
-    ensures { let m = R.meaning prims.now in IfOk result (Starts m (R.rest prims.now) (R.fits prims.now) frames.old.items frames.new.items (trace m (TacNode.AllGoals body.now) state number) (cost m (TacNode.AllGoals body.now) state number)) }
+    ensures { IfOk result (StartsNode (R.meaning prims.now) (TacNode.AllGoals body.now) state number frames.old.items frames.new.items) }
 {
     let last = prims.subgoals(&state);
     frames.push(Frame::Call(body.to(Place::Downward(last))?, state))?;
@@ -147,14 +145,14 @@ pub(crate) fn start_all_goals<R: Prims>(
 
 /// Rounds of the expression's first results.
 pub(crate) fn start_repeat_determ<R: Prims>(
-    _prims: &R,
     alloc: Global,
+    _prims: &R,
     frames: &mut Frames<R>,
     body: &Tac<R::Prim>,
     state: R::State,
     number: usize,
 ) -> Result<Option<Event<R::State>>, AllocError>
-    ensures { let m = R.meaning _prims.now in IfOk result (Starts m (R.rest _prims.now) (R.fits _prims.now) frames.old.items frames.new.items (trace m (TacNode.RepeatDeterm body.now) state number) (cost m (TacNode.RepeatDeterm body.now) state number)) }
+    ensures { IfOk result (StartsNode (R.meaning _prims.now) (TacNode.RepeatDeterm body.now) state number frames.old.items frames.new.items) }
 {
     let once = Tac::new(alloc, TacNode::Determ(body.copy()?))?;
     frames.push(Frame::Call(once.to(Place::Rounds(number))?, state))?;
@@ -169,7 +167,7 @@ pub(crate) fn start_determ<R: Prims>(
     state: R::State,
     number: usize,
 ) -> Result<Option<Event<R::State>>, AllocError>
-    ensures { let m = R.meaning _prims.now in IfOk result (Starts m (R.rest _prims.now) (R.fits _prims.now) frames.old.items frames.new.items (trace m (TacNode.Determ body.now) state number) (cost m (TacNode.Determ body.now) state number)) }
+    ensures { IfOk result (StartsNode (R.meaning _prims.now) (TacNode.Determ body.now) state number frames.old.items frames.new.items) }
 {
     frames.push(Frame::First)?;
     frames.push(Frame::Call(body.at(number)?, state))?;
@@ -178,14 +176,14 @@ pub(crate) fn start_determ<R: Prims>(
 
 /// A search in which the state alone waits.
 pub(crate) fn start_best_first<R: Prims>(
-    prims: &R,
     alloc: Global,
+    prims: &R,
     frames: &mut Frames<R>,
     body: &Tac<R::Prim>,
     state: R::State,
     number: usize,
 ) -> Result<Option<Event<R::State>>, AllocError>
-    ensures { let m = R.meaning prims.now in IfOk result (Starts m (R.rest prims.now) (R.fits prims.now) frames.old.items frames.new.items (trace m (TacNode.BestFirst body.now) state number) (cost m (TacNode.BestFirst body.now) state number)) }
+    ensures { IfOk result (StartsNode (R.meaning prims.now) (TacNode.BestFirst body.now) state number frames.old.items frames.new.items) }
 {
     let mut queue = Queue::new(alloc);
     queue.push(prims.measure(&state), state)?;
@@ -195,14 +193,14 @@ pub(crate) fn start_best_first<R: Prims>(
 
 /// The expression, under a frame that drops what is the same as the state.
 pub(crate) fn start_changed<R: Prims>(
-    prims: &R,
     alloc: Global,
+    prims: &R,
     frames: &mut Frames<R>,
     body: &Tac<R::Prim>,
     state: R::State,
     number: usize,
 ) -> Result<Option<Event<R::State>>, AllocError>
-    ensures { let m = R.meaning prims.now in IfOk result (Starts m (R.rest prims.now) (R.fits prims.now) frames.old.items frames.new.items (trace m (TacNode.Changed body.now) state number) (cost m (TacNode.Changed body.now) state number)) }
+    ensures { IfOk result (StartsNode (R.meaning prims.now) (TacNode.Changed body.now) state number frames.old.items frames.new.items) }
 {
     let copy = prims.copy(alloc, &state)?;
     frames.push(Frame::Unlike(copy))?;
@@ -212,14 +210,14 @@ pub(crate) fn start_changed<R: Prims>(
 
 /// The expression on the subgoal alone, under a frame that puts it back. Nothing if there is no such subgoal.
 pub(crate) fn start_select<R: Prims>(
-    prims: &R,
     alloc: Global,
+    prims: &R,
     frames: &mut Frames<R>,
     body: &Tac<R::Prim>,
     state: R::State,
     number: usize,
 ) -> Result<Option<Event<R::State>>, AllocError>
-    ensures { let m = R.meaning prims.now in IfOk result (Starts m (R.rest prims.now) (R.fits prims.now) frames.old.items frames.new.items (trace m (TacNode.Select body.now) state number) (cost m (TacNode.Select body.now) state number)) }
+    ensures { IfOk result (StartsNode (R.meaning prims.now) (TacNode.Select body.now) state number frames.old.items frames.new.items) }
 {
     if number == 0 {
         return Ok(None);

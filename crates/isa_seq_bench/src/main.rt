@@ -1,7 +1,7 @@
-// How long a machine takes for many rounds, and how much memory: `isa_seq_bench KIND ROUNDS`, KIND being one of
-// `first` (the first result of each round), `all` (all of them), `deep` and `best` (searches).
-// A million rounds took 0.1, 0.4, 0.4 and 0.1 s of one processor. With `first` and `best` the memory is the same for a thousand and
-// for a million, 1 MB; with `all` and `deep` each round leaves a run that may go on, and a million take 290 MB.
+//! How long a machine takes for many rounds, and how much memory: `isa_seq_bench KIND ROUNDS`, KIND being one of
+//! `first` (the first result of each round), `all` (all of them), `deep` and `best` (searches).
+//! A million rounds took 0.1, 0.4, 0.4 and 0.1 s of one processor. With `first` and `best` the memory is the same for a thousand and
+//! for a million, 1 MB; with `all` and `deep` each round leaves a run that may go on, and a million take 290 MB.
 #![tactic(auto)]
 
 use isa_seq::{Answer, Machine, Tac, TacNode, ask};

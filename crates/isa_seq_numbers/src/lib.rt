@@ -1,9 +1,9 @@
-// Primitives on numbers, to try the machine with.
+//! Primitives on numbers, to try the machine with.
 #![tactic(auto)]
 
-pub mod prims;
-pub mod pulled;
-pub mod run;
+mod prims;
+mod pulled;
+mod run;
 
 pub use prims::{Numbers, Step};
 pub use pulled::events;

@@ -1,4 +1,4 @@
-// States that are numbers: the last digit is the number of subgoals, and the others tell the way that was taken.
+//! States that are numbers: the last digit is the number of subgoals, and the others tell the way that was taken.
 #![tactic(auto)]
 
 use crate::run::Run;
@@ -21,9 +21,8 @@ pub enum Step {
 pub struct Numbers;
 
 impl Prims for Numbers {
-    ghost use Rattle.std.specs.Prelude.{◌≡◌};
-    ghost use Rattle.isa_seq_numbers.specs.Numbers.{numbers, rest_of_run, FitsAlways};
-    ghost use Rattle.isa_seq_numbers.specs.Laws.{numbers-is_meaning, rest_of_run-is_trace};
+    ghost use Rattle.isa_seq_numbers.specs.Numbers.{numbers};
+    ghost use Rattle.isa_seq_numbers.specs.Laws.{numbers-is_meaning};
 
     type State = u64;
 
@@ -33,13 +32,7 @@ impl Prims for Numbers {
 
     ghost meaning = { λ _. numbers };
 
-    ghost rest = { λ _. rest_of_run };
-
-    ghost fits = { λ _ run. FitsAlways run };
-
     ghost is_meaning = { λ _. numbers-is_meaning };
-
-    ghost rest_is_trace = { λ _ run _. rest_of_run-is_trace run };
 
     fn begin(
         &self,

@@ -1,9 +1,9 @@
-// The events of an expression on a number.
+//! The events of an expression on a number.
 #![tactic(auto)]
 
 ghost use Rattle.std.specs.Prelude.{IfOk};
 ghost use Rattle.isa_seq.specs.Tactics.{trace};
-ghost use Rattle.isa_seq_numbers.specs.Numbers.{numbers};
+ghost use Rattle.isa_seq_numbers.specs.Numbers.{steps};
 ghost use Rattle.isa_seq_numbers.specs.Pulled.{BeginsWith};
 
 use crate::prims::{Numbers, Step};
@@ -17,7 +17,7 @@ pub fn events(
     state: u64,
     limit: usize,
 ) -> Result<Vec<Event<u64>>, AllocError>
-    ensures { IfOk result (λ events. BeginsWith (trace numbers tac.now.node.value state 1) limit events.items) }
+    ensures { IfOk result (λ events. BeginsWith (trace steps tac.now.node.value state 1) limit events.items) }
 {
     let mut machine = Machine::start(alloc, &Numbers, tac, &state)?;
     let mut events = Vec::new(alloc);

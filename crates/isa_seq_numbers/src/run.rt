@@ -1,4 +1,4 @@
-// A run of a primitive on numbers.
+//! A run of a primitive on numbers.
 #![tactic(auto)]
 
 /// What is left of a run: so many results from this number on, each ten more than the one before, and perhaps an `Outside` first.

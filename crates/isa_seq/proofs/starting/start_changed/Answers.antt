@@ -7,6 +7,6 @@ use Rattle.isa_seq.proofs.starting.start_changed.Goals as goal
 pub returns : goal.returns
 unfolding trace cost
 returns g c =
-    let m = g.R.Prims.meaning c.args.prims.now in
-    starts-unlike m _ _ (g.met.R.Prims.is_meaning c.args.prims.now) _ _ _ _ _ c.args.state c.args.body.now.node.value (At c.args.number)
+    let m = (g.R.Prims.meaning c.args.prims.now).primitives in
+    starts-unlike m _ _ (g.met.R.Prims.is_meaning c.args.prims.now).primitives _ _ _ _ _ c.args.state c.args.body.now.node.value (At c.args.number)
     c.in_ok-at.ensures c.in_ok-copy.ensures c.in_ok-push.ensures.items c.in_ok-push-2.ensures.items

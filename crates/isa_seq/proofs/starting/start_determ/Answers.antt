@@ -7,6 +7,6 @@ use Rattle.isa_seq.proofs.starting.start_determ.Goals as goal
 pub returns : goal.returns
 unfolding trace cost
 returns g c =
-    let m = g.R.Prims.meaning c.args._prims.now in
-    starts-first m _ _ (g.met.R.Prims.is_meaning c.args._prims.now) _ _ _ _ c.args.state c.args.body.now.node.value (At c.args.number)
+    let m = (g.R.Prims.meaning c.args._prims.now).primitives in
+    starts-first m _ _ (g.met.R.Prims.is_meaning c.args._prims.now).primitives _ _ _ _ c.args.state c.args.body.now.node.value (At c.args.number)
     c.in_ok-at.ensures c.in_ok-push.ensures.items c.in_ok-push-2.ensures.items

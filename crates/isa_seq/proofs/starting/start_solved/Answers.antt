@@ -8,11 +8,11 @@ use Rattle.isa_seq.proofs.starting.start_solved.Goals as goal
 pub returns-then-subgoals-eq0 : goal.returns-then-subgoals-eq0
 unfolding trace
 returns-then-subgoals-eq0 g c =
-    let m = g.R.Prims.meaning c.args.prims.now in
+    let m = (g.R.Prims.meaning c.args.prims.now).primitives in
     starts-result _ _ _ _ _ _ _ (ap (λ z. if z then event (Res c.args.state) nothing else nothing) (is_zero (m.subgoals c.args.state) c.subgoals.result c.subgoals.ensures (omega arith)))
 
 pub returns : goal.returns
 unfolding trace
 returns g c =
-    let m = g.R.Prims.meaning c.args.prims.now in
+    let m = (g.R.Prims.meaning c.args.prims.now).primitives in
     starts-nothing _ _ _ _ _ _ (ap (λ z. if z then event (Res c.args.state) nothing else nothing) (is_not_zero (m.subgoals c.args.state) c.subgoals.result c.subgoals.ensures (omega arith)))
