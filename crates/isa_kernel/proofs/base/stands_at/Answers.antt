@@ -1,0 +1,8 @@
+use Rattle.std.proofs.Common.{◌≡◌, Some, slice_get, sym, ◌∙◌, rules}
+use Rattle.isa_kernel.proofs.Indexes.{stands_there}
+use Rattle.isa_kernel.proofs.base.stands_at.Goals as goal
+
+pub returns-in-Some : goal.returns-in-Some
+returns-in-Some c = λ h.
+    let there : slice_get c.args.entries.now c.args.place ≡ Some c.in-Some.other.now = search rules in
+    stands_there c.args.entries.now c.args.place c.in-Some.other.now c.args.one.now there (sym c.same.ensures ∙ h)

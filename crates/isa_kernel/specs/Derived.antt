@@ -1,0 +1,31 @@
+-- Inferences that the primitive ones make, each as the theorem that it gives.
+-- Source: the derived rules of LCF provers, as `DISCH_ALL` and `ALPHA` of HOL Light (Harrison, "HOL Light: a tutorial introduction", 1996).
+use Rattle.std.specs.Prelude.{◌≡◌, List, [], ◌∷◌, Option, Some, None, Bool, true, false, ◌&&◌, if◌then◌else◌, Result, Ok, Err}
+use Rattle.isa_terms.specs.Terms.{Tm}
+use Rattle.isa_terms.specs.Equal.{tm_eq}
+use Rattle.isa_terms.specs.Sets.{missing}
+use Rattle.isa_kernel.specs.Logic.{prop, imp}
+use Rattle.isa_kernel.specs.Theorem.{Theorem}
+use Rattle.isa_kernel.specs.Inferences.{has_type}
+
+-- the same theorem with a proposition that equals its own but for the names of binders
+abbrev pub renamed : Tm → Theorem → Option Theorem
+renamed p th = if tm_eq p th.prop then Some (record { hyps = th.hyps; prop = p; base = th.base }) else None
+
+-- `A1 ==> .. ==> An ==> B`
+abbrev pub implies : List Tm → Tm → Tm
+implies [] q = q
+implies (p ∷ ps) q = imp p (implies ps q)
+
+-- whether each is a well-typed proposition
+abbrev pub are_propositions : List Tm → Bool
+are_propositions [] = true
+are_propositions (p ∷ ps) = has_type p prop && are_propositions ps
+
+-- the theorem behind the premises, without the hypotheses that equal one of them
+abbrev pub behind_premises : List Tm → Theorem → Theorem
+behind_premises ps th = record { hyps = missing ps th.hyps; prop = implies ps th.prop; base = th.base }
+
+-- `A1 ==> .. ==> An ==> B`, for propositions A1 .. An, without the hypotheses that equal one of them
+abbrev pub discharged : List Tm → Theorem → Option Theorem
+discharged ps th = if are_propositions ps then Some (behind_premises ps th) else None
