@@ -1,5 +1,6 @@
 -- Derived inferences: their records replay, and give what their definitions say.
-use Rattle.std.proofs.Common.{◌≡◌, List, [], ◌∷◌, Bool, true, false, cond, ◌||◌, ◌&&◌, Some, None, Ok, map, refl, sym, ap, ◌∙◌, subst}
+use Rattle.std.proofs.Common.{◌≡◌, List, [], ◌∷◌, Bool, true, false, cond, ◌||◌, ◌&&◌, Some, None, Ok, map, refl, sym, ap, ◌∙◌, subst, ◌++◌, append-nil}
+use Rattle.std.specs.Prelude.{option_and_then}
 use Rattle.std.specs.List.{slice_get}
 use Rattle.std.proofs.Common.{ℕ, zero, suc}
 use Rattle.isa_terms.specs.Terms.{Tm, bare}
@@ -7,15 +8,19 @@ use Rattle.isa_terms.specs.Equal.{tm_eq}
 use Rattle.isa_terms.specs.Sets.{has, missing, joined, without}
 use Rattle.isa_terms.specs.Typing.{type_at}
 use Rattle.isa_terms.proofs.Bare.{tm_decides, type_at_bare}
+use Rattle.isa_terms.proofs.Functions.{bind_some, cond_some}
+use Rattle.isa_terms.proofs.Typed.{type_of_typed, typed_of_type}
+use Rattle.isa_kernel.specs.Forms.{imp_parts}
+use Rattle.isa_kernel.proofs.Parts.{imp_made}
 use Rattle.isa_kernel.specs.Logic.{prop, imp, IsProposition}
 use Rattle.isa_kernel.specs.Theorem.{Theorem, IsDerived}
 use Rattle.isa_kernel.specs.Axioms.{joined_bases}
 use Rattle.isa_kernel.specs.Inferences.{has_type, assumed, implies_introduced, implies_eliminated}
-use Rattle.isa_kernel.specs.Derived.{renamed, implies, are_propositions, behind_premises, discharged}
+use Rattle.isa_kernel.specs.Derived.{renamed, implies, are_propositions, behind_premises, discharged, with_premises, conclusion_behind, undischarged}
 use Rattle.isa_kernel.specs.Replay.{Replay, IsRecorded}
 use Rattle.isa_kernel.specs.Replays.{replay_of}
 use Rattle.isa_kernel.specs.declared.log.LogNode.TheVariants.{Assume, ImpliesIntr, ImpliesElim}
-use Rattle.isa_kernel.proofs.Preserved.{derived_proposition}
+use Rattle.isa_kernel.proofs.Preserved.{derived_proposition, imp_both}
 use Rattle.isa_kernel.proofs.Members.{missing_none, missing_entries_none}
 use Rattle.isa_kernel.proofs.Recorded.{proposition_typed, assumed_recorded, implies_introduced_recorded, implies_eliminated_recorded}
 
@@ -89,3 +94,38 @@ discharged_recorded p q ps th log l e s w r =
     p q (behind_premises ps th) (behind_premises (p ∷ ps) th) log l e s r
     (ap (λ b. cond b (Some (record { hyps = without p (missing ps th.hyps); prop = imp p (implies ps th.prop); base = th.base })) None) w
     ∙ ap (λ r. Some (record { hyps = r; prop = imp p (implies ps th.prop); base = th.base })) (without_missing p ps th.hyps))
+
+-- ---- premises as hypotheses
+pub joined_known : (us : List Tm) (p : Tm) → has us p ≡ true → joined us (p ∷ []) ≡ us
+joined_known us p e = ap (λ b. us ++ cond b [] (p ∷ [])) e ∙ append-nil us
+
+pub joined_new : (us : List Tm) (p : Tm) → has us p ≡ false → joined us (p ∷ []) ≡ us ++ p ∷ []
+joined_new us p e = ap (λ b. us ++ cond b [] (p ∷ [])) e
+
+-- a premise of a derived proposition is a proposition
+premise_typed : (th : Theorem) (a b p : Tm) → IsDerived th → imp_parts th.prop ≡ Some (a, b) → tm_eq a p ≡ true → IsProposition p
+premise_typed th a b p d e t =
+    let whole : IsProposition th.prop = sym (type_at_bare [] th.prop) ∙ derived_proposition d.derivation.tree in
+    let made : IsProposition (imp a b) = subst (λ x. IsProposition x) (imp_made th.prop (a, b) e) whole in
+    let left : IsProposition a = type_of_typed (imp_both (typed_of_type [] (imp a b) prop made)).0 in
+    sym (type_at_bare [] p) ∙ ap (type_at []) (sym ((tm_decides a p).0 t)) ∙ type_at_bare [] a ∙ left
+
+pub undischarged_none : (th out : Theorem) (log : Replay) → IsRecorded th log → undischarged [] th ≡ Some out → IsRecorded out log
+undischarged_none th out log r h = let e : th ≡ out = cc (h) in subst (λ x. IsRecorded x log) e r
+
+pub undischarged_more : (p q : Tm) (ps : List Tm) (th out : Theorem) (log assumption step result : Replay) → assumption ≡ replay_of (Assume q) → q ≡ p → step ≡ replay_of (ImpliesElim log assumption)
+    → ((mid last : Theorem) → IsRecorded mid step → undischarged ps mid ≡ Some last → IsRecorded last result) → IsRecorded th log → undischarged (p ∷ ps) th ≡ Some out → IsRecorded out result
+undischarged_more p q ps th out log assumption step result ea sa es rest r h =
+    let c = bind_some (conclusion_behind (p ∷ ps) th.prop) (λ (q : Tm). Some (record { hyps = with_premises th.hyps (p ∷ ps); prop = q; base = th.base })) h in
+    let i = bind_some (imp_parts th.prop) (λ (x : Tm × Tm). cond (tm_eq x.0 p) (conclusion_behind ps x.1) None) c.1 in
+    let t = cond_some (tm_eq i.0.0 p) (conclusion_behind ps i.0.1) i.2 in
+    let w : has_type p prop ≡ true = proposition_typed p (premise_typed th i.0.0 i.0.1 p r.derived i.1 t.0) in
+    let mid : Theorem = record { hyps = joined th.hyps (p ∷ []); prop = i.0.1; base = joined_bases th.base [] } in
+    let first = assumed_recorded p q _ assumption ea sa (assumes p th w) in
+    let eliminated : implies_eliminated th (record { hyps = p ∷ []; prop = p; base = [] }) ≡ Some mid =
+    ap (λ o. option_and_then (λ (x : Tm × Tm). cond (tm_eq x.0 p) (Some (record { hyps = joined th.hyps (p ∷ []); prop = x.1; base = joined_bases th.base [] })) None) o) i.1 ∙ ap (λ b. cond b (Some mid) None) t.0 in
+    let second = implies_eliminated_recorded th _ mid step log assumption es r first eliminated in
+    rest mid out second
+    (ap (λ o. option_and_then (λ (x : Tm). Some (record { hyps = with_premises (joined th.hyps (p ∷ [])) ps; prop = x; base = joined_bases th.base [] })) o) t.1
+    ∙ ap (λ B. Some (record { hyps = with_premises (joined th.hyps (p ∷ [])) ps; prop = c.0; base = B })) (append-nil th.base)
+    ∙ c.2)

@@ -1,4 +1,4 @@
--- The index beside a long base, of which no contract of a public call speaks: an entry without a key in it isn't in the base.
+-- An index of the entries of a long base, of which no contract of a public call speaks: an entry without a key in it is none of them.
 use Rattle.std.specs.Prelude.{◌≡◌, ℕ, List, Option, None, Bool, false, nat_eq}
 use Rattle.std.specs.Map.{lookup}
 use Rattle.isa_terms.specs.Equal.{name_eq}

@@ -1,8 +1,9 @@
-//! An index of a long base, so that no join of bases compares each entry of the one with each of the other.
+//! An index of a long base, so that a join of two does not compare each entry of the one with each of the other.
 ghost use Rattle.std.specs.Prelude.{◌≡◌, IfOk, OnOk};
+ghost use Rattle.isa_kernel.specs.Axioms.{has_entry};
 ghost use Rattle.isa_kernel.specs.Indexes.{place_of, IsIndexed, Notes};
 
-use crate::base::BaseEntry;
+use crate::base::{BaseEntry, has_entry, stands_at};
 use indexmap::IndexMap;
 use isa_terms::Name;
 use std::alloc::{AllocError, Global};
@@ -44,8 +45,19 @@ impl Index {
         Ok(())
     }
 
+    /// Whether the entry is one of those whose index this is.
+    pub(crate) fn has(&self, entries: &[BaseEntry], one: &BaseEntry) -> bool
+        requires { IsIndexed self.now.axioms.entries self.now.cites.entries entries.now }
+        ensures { result ≡ has_entry entries.now one.now }
+    {
+        match self.place(one) {
+            None => false,
+            Some(place) => stands_at(entries, place, one) || has_entry(entries, one),
+        }
+    }
+
     /// Where an axiom of the same name, or a cite of the same number, stands.
-    pub(crate) fn place(&self, entry: &BaseEntry) -> Option<usize>
+    fn place(&self, entry: &BaseEntry) -> Option<usize>
         ensures { result ≡ place_of self.now.axioms.entries self.now.cites.entries entry.now }
     {
         match entry {
