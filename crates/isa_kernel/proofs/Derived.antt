@@ -1,5 +1,5 @@
 -- Derived inferences: their records replay, and give what their definitions say.
-use Rattle.std.proofs.Common.{◌≡◌, List, [], ◌∷◌, Bool, true, false, cond, ◌||◌, ◌&&◌, Some, None, Ok, map, refl, sym, ap, ◌∙◌, subst, ◌++◌, append-nil}
+use Rattle.std.proofs.Common.{◌≡◌, List, [], ◌∷◌, Bool, true, false, cond, ◌||◌, ◌&&◌, Some, None, Ok, Err, Result, IfOk, length, arith, map, refl, sym, ap, ◌∙◌, subst, ◌++◌, append-nil}
 use Rattle.std.specs.Prelude.{option_and_then}
 use Rattle.std.specs.List.{slice_get}
 use Rattle.std.proofs.Common.{ℕ, zero, suc}
@@ -74,16 +74,26 @@ module _ (p : Tm) (th : Theorem) where
       let second = implies_introduced_recorded p b _ _ implication assumption ei si first (introduces w) in
       implies_eliminated_recorded _ th out log implication l el second r (eliminates q.0 ∙ q.1)
 
+-- a list without members
+pub none_left : {A : Type 0} (xs : List A) → length xs ≡ 0 → xs ≡ []
+none_left [] e = refl
+none_left (x ∷ xs) e = absurd (omega arith)
+
+-- what each value has, it has
+pub if_ok_more : {A E : Type 0} {P Q : A → Type 0} (r : Result A E) → ((a : A) → P a → Q a) → IfOk r P → IfOk r Q
+if_ok_more (Ok a) f p = f a p
+if_ok_more (Err e) f p = tt
+
 -- ---- premises
 without_missing : (p : Tm) (ps us : List Tm) → without p (missing ps us) ≡ missing (p ∷ ps) us
 without_missing p ps [] = refl
-without_missing p ps (u ∷ us) = go (tm_eq p u) (has ps u) refl
+without_missing p ps (u ∷ us) = go (tm_eq p u) (has ps u) refl (without_missing p ps us)
   where
-    go : (a b : Bool) → tm_eq p u ≡ a → without p (cond b (missing ps us) (u ∷ missing ps us)) ≡ cond (a || b) (missing (p ∷ ps) us) (u ∷ missing (p ∷ ps) us)
-    go true true e = without_missing p ps us
-    go true false e = ap (λ c. cond c (without p (missing ps us)) (u ∷ without p (missing ps us))) e ∙ without_missing p ps us
-    go false true e = without_missing p ps us
-    go false false e = ap (λ c. cond c (without p (missing ps us)) (u ∷ without p (missing ps us))) e ∙ ap (λ r. u ∷ r) (without_missing p ps us)
+    go : (a b : Bool) → tm_eq p u ≡ a → without p (missing ps us) ≡ missing (p ∷ ps) us → without p (cond b (missing ps us) (u ∷ missing ps us)) ≡ cond (a || b) (missing (p ∷ ps) us) (u ∷ missing (p ∷ ps) us)
+    go true true e h = h
+    go true false e h = ap (λ c. cond c (without p (missing ps us)) (u ∷ without p (missing ps us))) e ∙ h
+    go false true e h = h
+    go false false e h = ap (λ c. cond c (without p (missing ps us)) (u ∷ without p (missing ps us))) e ∙ ap (λ r. u ∷ r) h
 
 pub discharged_none : (th : Theorem) → behind_premises [] th ≡ th
 discharged_none th = λ i. record { hyps = missing_none th.hyps i; prop = th.prop; base = th.base }

@@ -4,10 +4,12 @@ use Rattle.std.specs.Prelude.{◌≡◌, List, [], ◌∷◌, Option, Some, None
 use Rattle.isa_terms.specs.Terms.{Tm}
 use Rattle.isa_terms.specs.Equal.{tm_eq}
 use Rattle.isa_terms.specs.Sets.{missing, joined}
-use Rattle.isa_kernel.specs.Logic.{prop, imp}
+use Rattle.isa_terms.specs.Typing.{type_at}
+use Rattle.isa_terms.specs.Norm.{norm}
+use Rattle.isa_kernel.specs.Logic.{prop, imp, eq}
 use Rattle.isa_kernel.specs.Theorem.{Theorem}
 use Rattle.isa_kernel.specs.Forms.{◌>>=◌, imp_parts}
-use Rattle.isa_kernel.specs.Inferences.{has_type}
+use Rattle.isa_kernel.specs.Inferences.{has_type, well_typed}
 
 -- the same theorem with a proposition that equals its own but for the names of binders
 abbrev pub renamed : Tm → Theorem → Option Theorem
@@ -48,3 +50,9 @@ abbrev pub undischarged : List Tm → Theorem → Option Theorem
 undischarged ps th = do
   q ← conclusion_behind ps th.prop
   Some (record { hyps = with_premises th.hyps ps; prop = q; base = th.base })
+
+-- `t == t'` for a well-typed t and its normal form t'
+abbrev pub normal_form_at : Tm → Option Theorem
+normal_form_at t = do
+  T ← well_typed (type_at [] t)
+  Some (record { hyps = []; prop = eq T t (norm t); base = [] })
