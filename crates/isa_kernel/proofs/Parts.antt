@@ -110,3 +110,7 @@ last_made (Free x T) e = cc
 last_made (Unknown x n T) e = cc
 last_made (Abs x T b) e = cc
 last_made (App f a) e = cc
+
+-- a constant of that name, whose type is a relation on S
+pub constant_made : (name : List ℕ) (c : Tm) (F T S : Ty) → const_type name c ≡ Some F → relation_of F ≡ Some T → ty_eq T S ≡ true → c ≡ Const name (function_of S (function_of S prop))
+constant_made name c F T S e f h = const_made name c F e ∙ ap (Const name) (relation_made F T f ∙ ap (λ X. function_of X (function_of X prop)) ((ty_decides T S).0 h))

@@ -1,4 +1,5 @@
 ghost use Rattle.isa_kernel.specs.Laws.{NormalFormsAreDerived, DerivedArePropositions, InstancesAreFound, JoinsAreLeast};
+ghost use Rattle.isa_kernel.specs.Well.{AxiomsAreWell};
 
 /// A well-typed term equals its normal form in the pure logic.
 pub fn normal_forms_are_derived()
@@ -18,4 +19,9 @@ pub fn instances_are_found()
 /// Joined bases hold what each of the two holds, and nothing else.
 pub fn joins_are_least()
     ensures { JoinsAreLeast }
+{}
+
+/// An axiom is refused exactly where its name is not new, where it does not fit the theory, or where it is no proposition.
+pub fn axioms_are_well()
+    ensures { AxiomsAreWell }
 {}
