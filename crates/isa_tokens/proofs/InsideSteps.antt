@@ -15,12 +15,12 @@ passed k zero d (b ∷ bs) h = refl
 passed k (suc p) d (b ∷ bs) h = passed k p d bs (omega arith)
 
 step : (k : Bracket) (d b : ℕ) (bs : List ℕ) (x y z : Bool) → starts (closes k) (b ∷ bs) ≡ x → starts (opens k) (b ∷ bs) ≡ y → allows k b ≡ z → inside_end k 0 d (b ∷ bs)
-  ≡ (if x then (if nat_eq d 1 then Closes (b ∷ bs) else inside_end k (length (closes k) - 1) (d - 1) bs)
-  else (if y then (if nat_eq d 500 then Breaks Deep (b ∷ bs) else inside_end k (length (opens k) - 1) (d + 1) bs)
-  else (if z then inside_end k 0 d bs else Breaks Byte (b ∷ bs))))
+    ≡ (if x then (if nat_eq d 1 then Closes (b ∷ bs) else inside_end k (length (closes k) - 1) (d - 1) bs)
+    else (if y then (if nat_eq d 500 then Breaks Deep (b ∷ bs) else inside_end k (length (opens k) - 1) (d + 1) bs)
+    else (if z then inside_end k 0 d bs else Breaks Byte (b ∷ bs))))
 step k d b bs x y z p q r = λ i. (if p i then (if nat_eq d 1 then Closes (b ∷ bs) else inside_end k (length (closes k) - 1) (d - 1) bs)
-  else (if q i then (if nat_eq d 500 then Breaks Deep (b ∷ bs) else inside_end k (length (opens k) - 1) (d + 1) bs)
-  else (if r i then inside_end k 0 d bs else Breaks Byte (b ∷ bs))))
+    else (if q i then (if nat_eq d 500 then Breaks Deep (b ∷ bs) else inside_end k (length (opens k) - 1) (d + 1) bs)
+    else (if r i then inside_end k 0 d bs else Breaks Byte (b ∷ bs))))
 
 less-one : (m : ℕ) → suc m - 1 ≡ m
 less-one m = omega arith
@@ -100,21 +100,21 @@ some_left : (mark rest : List ℕ) → 1 ≤ length mark → length mark ≤ len
 some_left mark rest h l = omega (arith, h, l)
 
 pub closes_next : (k : Bracket) (d : ℕ) (rest after mark again : List ℕ) → mark ≡ closes k → again ≡ closes k → starts mark rest ≡ true → length mark ≤ length rest → d ≢ 1 →
-  after ≡ drop (length again) rest → inside_end k 0 d rest ≡ inside_end k 0 (d - 1) after
+    after ≡ drop (length again) rest → inside_end k 0 d rest ≡ inside_end k 0 (d - 1) after
 closes_next k d rest after mark again m a s l n e =
     let long : length (closes k) ≤ length rest = subst (λ (x : List ℕ). length x ≤ length rest) m l in
     closes_one k d rest (some_left (closes k) rest (closes_long k) long) long n (subst (λ (x : List ℕ). starts x rest ≡ true) m s)
     ∙ ap (λ (x : List ℕ). inside_end k 0 (d - 1) (drop (length x) rest)) (sym a) ∙ ap (λ x. inside_end k 0 (d - 1) x) (sym e)
 
 pub opens_next : (k : Bracket) (d : ℕ) (rest after mark other again : List ℕ) → mark ≡ opens k → other ≡ closes k → again ≡ opens k → starts other rest ≡ false → starts mark rest ≡ true →
-  length mark ≤ length rest → d ≢ 500 → after ≡ drop (length again) rest → inside_end k 0 d rest ≡ inside_end k 0 (d + 1) after
+    length mark ≤ length rest → d ≢ 500 → after ≡ drop (length again) rest → inside_end k 0 d rest ≡ inside_end k 0 (d + 1) after
 opens_next k d rest after mark other again m o a c s l n e =
     let long : length (opens k) ≤ length rest = subst (λ (x : List ℕ). length x ≤ length rest) m l in
     opens_one k d rest (some_left (opens k) rest (opens_long k) long) long n (subst (λ (x : List ℕ). starts x rest ≡ false) o c) (subst (λ (x : List ℕ). starts x rest ≡ true) m s)
     ∙ ap (λ (x : List ℕ). inside_end k 0 (d + 1) (drop (length x) rest)) (sym a) ∙ ap (λ x. inside_end k 0 (d + 1) x) (sym e)
 
 pub byte_next : (k : Bracket) (d b : ℕ) (rest after mark other : List ℕ) → mark ≡ opens k → other ≡ closes k → starts other rest ≡ false → starts mark rest ≡ false → allows k b ≡ true →
-  rest ≡ b ∷ after → inside_end k 0 d rest ≡ inside_end k 0 d after
+    rest ≡ b ∷ after → inside_end k 0 d rest ≡ inside_end k 0 d after
 byte_next k d b rest after mark other m o c s h e =
     ap (λ x. inside_end k 0 d x) e ∙ goes_over k d b after
     (subst (λ (x : List ℕ). starts (closes k) x ≡ false) e (subst (λ (x : List ℕ). starts x rest ≡ false) o c))

@@ -28,10 +28,10 @@ line_next text rest after b c =
     let m : ℕ = length rest - length after in
     let count : length text - length after ≡ (length text - length rest) + (length rest - length after) = omega (arith, b.0, c.0) in
     let cut : take (length text - length after) text ≡ take (length text - length rest) text ++ take (length rest - length after) rest =
-        ap (λ k. take k text) count ∙ take-more (length text - length rest) (length rest - length after) text
-        ∙ ap (λ (l : List ℕ). take (length text - length rest) text ++ take (length rest - length after) l) (sym b.1) in
+    ap (λ k. take k text) count ∙ take-more (length text - length rest) (length rest - length after) text
+    ∙ ap (λ (l : List ℕ). take (length text - length rest) text ++ take (length rest - length after) l) (sym b.1) in
     let sums : feeds (take (length text - length rest) text ++ take (length rest - length after) rest) ≡ feeds (take (length text - length rest) text) + feeds (take (length rest - length after) rest) =
-        sum_by-append (λ b. cond (nat_eq b 10) 1 0) (take (length text - length rest) text) (take (length rest - length after) rest) in
+    sum_by-append (λ b. cond (nat_eq b 10) 1 0) (take (length text - length rest) text) (take (length rest - length after) rest) in
     omega (arith, ap (λ (l : List ℕ). feeds l) cut, sums)
 
 -- the tokens before the rest were read, and it begins on this line
@@ -51,7 +51,7 @@ tokens_start text empty e =
     }
 
 pub tokens_skip : (text rest after : List ℕ) (tokens : List Token) (line count : ℕ) → TokensSoFar text rest tokens line → Skips after ≡ front_of rest →
-  (IsBehind rest after) × (length after < length rest) → count ≡ feeds (take (length rest - length after) rest) → count ≤ length rest - length after → TokensSoFar text after tokens (line + count)
+    (IsBehind rest after) × (length after < length rest) → count ≡ feeds (take (length rest - length after) rest) → count ≤ length rest - length after → TokensSoFar text after tokens (line + count)
 tokens_skip text rest after tokens line count so f b c l =
     record {
       reads = λ more r. so.reads more (skips rest after more (sym f) r);
@@ -61,8 +61,8 @@ tokens_skip text rest after tokens line count so f b c l =
     }
 
 pub tokens_give : (text rest after : List ℕ) (lexeme : Lexeme) (tokens longer : List Token) (line count : ℕ) → TokensSoFar text rest tokens line → Gives lexeme after ≡ front_of rest →
-  (IsBehind rest after) × (length after < length rest) → count ≡ feeds (take (length rest - length after) rest) → count ≤ length rest - length after →
-  longer ≡ tokens ++ record { lexeme = lexeme; line = line } ∷ [] → TokensSoFar text after longer (line + count)
+    (IsBehind rest after) × (length after < length rest) → count ≡ feeds (take (length rest - length after) rest) → count ≤ length rest - length after →
+    longer ≡ tokens ++ record { lexeme = lexeme; line = line } ∷ [] → TokensSoFar text after longer (line + count)
 tokens_give text rest after lexeme tokens longer line count so f b c l e =
     record {
       reads = λ more r.
@@ -76,14 +76,14 @@ tokens_give text rest after lexeme tokens longer line count so f b c l e =
     }
 
 pub tokens_end : (text rest : List ℕ) (tokens longer : List Token) (line : ℕ) → TokensSoFar text rest tokens line → Ends ≡ front_of rest →
-  longer ≡ tokens ++ record { lexeme = End; line = line } ∷ [] → Reads text text longer
+    longer ≡ tokens ++ record { lexeme = End; line = line } ∷ [] → Reads text text longer
 tokens_end text rest tokens longer line so f e =
     let all : Reads text text (tokens ++ record { lexeme = End; line = line_of text rest } ∷ []) = so.reads (record { lexeme = End; line = line_of text rest } ∷ []) (ends rest (sym f)) in
     subst (λ (ts : List Token). Reads text text ts) (sym (e ∙ ap (λ n. tokens ++ record { lexeme = End; line = n } ∷ []) so.line_is)) all
 
 pub tokens_fault : (text rest place : List ℕ) (fault : Fault) (tokens longer : List Token) (line count : ℕ) → TokensSoFar text rest tokens line → Faults fault place ≡ front_of rest →
-  IsBehind rest place → count ≡ feeds (take (length rest - length place) rest) →
-  longer ≡ tokens ++ record { lexeme = Broken fault; line = line + count } ∷ [] → Reads text text longer
+    IsBehind rest place → count ≡ feeds (take (length rest - length place) rest) →
+    longer ≡ tokens ++ record { lexeme = Broken fault; line = line + count } ∷ [] → Reads text text longer
 tokens_fault text rest place fault tokens longer line count so f b c e =
     let lines : line + count ≡ line_of text place = omega (arith, so.line_is, c, line_next text rest place so.behind b) in
     let all : Reads text text (tokens ++ record { lexeme = Broken fault; line = line_of text place } ∷ []) = so.reads (record { lexeme = Broken fault; line = line_of text place } ∷ []) (faults rest place fault (sym f)) in

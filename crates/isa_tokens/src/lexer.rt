@@ -123,7 +123,10 @@ fn bracket_front(bracket: Bracket, text: &[u8]) -> Front<'_>
             let rest = skip(at, bracket.closes().len());
             match bracket {
                 Bracket::Comment => Front::Skips(rest),
-                _ => Front::Gives(Lexeme::Text(Bytes::new(&inside[..inside.len() - at.len()])), rest),
+                _ => Front::Gives(
+                    Lexeme::Text(Bytes::new(&inside[..inside.len() - at.len()])),
+                    rest,
+                ),
             }
         }
         Inside::Unclosed => Front::Faults(bracket.fault(), text),
@@ -165,11 +168,17 @@ fn plain_front<'a>(first: u8, after: &'a [u8], text: &'a [u8]) -> Front<'a>
     }
     if is_digit(first) {
         let count = digit_run(text);
-        return Front::Gives(Lexeme::Number(Bytes::new(&text[..count])), skip(text, count));
+        return Front::Gives(
+            Lexeme::Number(Bytes::new(&text[..count])),
+            skip(text, count),
+        );
     }
     if first == b'\'' && begins_name(after) {
         let count = name_run(text);
-        return Front::Gives(Lexeme::TypeVariable(Bytes::new(&text[..count])), skip(text, count));
+        return Front::Gives(
+            Lexeme::TypeVariable(Bytes::new(&text[..count])),
+            skip(text, count),
+        );
     }
     if starts(b"::", text) {
         return Front::Gives(Lexeme::Colons, skip(text, 2));
@@ -208,7 +217,10 @@ pub fn tokens<'a>(alloc: Global, text: &'a [u8]) -> Result<Vec<Token<'a>>, Alloc
     loop {
         match next_front(rest) {
             Front::Ends => {
-                tokens.push(Token { lexeme: Lexeme::End, line })?;
+                tokens.push(Token {
+                    lexeme: Lexeme::End,
+                    line,
+                })?;
                 return Ok(tokens);
             }
             Front::Skips(after) => {
@@ -222,7 +234,10 @@ pub fn tokens<'a>(alloc: Global, text: &'a [u8]) -> Result<Vec<Token<'a>>, Alloc
             }
             Front::Faults(fault, at) => {
                 let line = line + newlines(rest, rest.len() - at.len()) as u64;
-                tokens.push(Token { lexeme: Lexeme::Broken(fault), line })?;
+                tokens.push(Token {
+                    lexeme: Lexeme::Broken(fault),
+                    line,
+                })?;
                 return Ok(tokens);
             }
         }
