@@ -140,7 +140,7 @@ TypesIn ts (Bound n) = Unit {0}
 TypesIn ts (Abs x T b) = HasTypes ts T × TypesIn ts b
 TypesIn ts (App f a) = TypesIn ts f × TypesIn ts a
 
-types_grown : (ts us : List TypeEntry) → Grows ts us → (t : Tm) → TypesIn ts t → TypesIn us t
+pub types_grown : (ts us : List TypeEntry) → Grows ts us → (t : Tm) → TypesIn ts t → TypesIn us t
 types_grown ts us g (Const x T) h = grown ts us g T h
 types_grown ts us g (Free x T) h = grown ts us g T h
 types_grown ts us g (Unknown x i T) h = grown ts us g T h
@@ -148,7 +148,7 @@ types_grown ts us g (Bound n) h = tt
 types_grown ts us g (Abs x T b) h = (grown ts us g T h.0, types_grown ts us g b h.1)
 types_grown ts us g (App f a) h = (types_grown ts us g f h.0, types_grown ts us g a h.1)
 
-asks_tm : (es : List TypeEntry) (t : Tm) → Asks es (with_types es t) (λ us. TypesIn us t)
+pub asks_tm : (es : List TypeEntry) (t : Tm) → Asks es (with_types es t) (λ us. TypesIn us t)
 asks_tm es (Const x T) = asks_ty es T
 asks_tm es (Free x T) = asks_ty es T
 asks_tm es (Unknown x i T) = asks_ty es T
@@ -203,7 +203,7 @@ terms_snoc : (ts : List TypeEntry) (es : List TermEntry) (x : List ℕ) (i : ℕ
 terms_snoc ts [] x i T h k = ((refl, h), tt)
 terms_snoc ts (e ∷ es) x i T h k = (k.0, terms_snoc ts es x i T h k.1)
 
-unknowns_themselves : (ts : List TypeEntry) (es : List TermEntry) (t : Tm) → TypesIn ts t → TermsThemselves ts es → TermsThemselves ts (with_unknowns es t)
+pub unknowns_themselves : (ts : List TypeEntry) (es : List TermEntry) (t : Tm) → TypesIn ts t → TermsThemselves ts es → TermsThemselves ts (with_unknowns es t)
 unknowns_themselves ts es (Const x T) h k = k
 unknowns_themselves ts es (Free x T) h k = k
 unknowns_themselves ts es (Bound n) h k = k
@@ -219,7 +219,7 @@ pub asked_themselves : (ts : List TypeEntry) (fs : List TermEntry) (es : List Eq
 asked_themselves ts fs [] h k = k
 asked_themselves ts fs (e ∷ es) h k = asked_themselves ts (with_unknowns (with_unknowns fs e.left) e.right) es h.1 (unknowns_themselves ts (with_unknowns fs e.left) e.right h.0.1 (unknowns_themselves ts fs e.left h.0.0 k))
 
-covers_more : (fs gs : List TermEntry) → ((x : List ℕ) (i : ℕ) (T : Ty) → is_some (find_term x i T fs) ≡ true → is_some (find_term x i T gs) ≡ true) → (t : Tm) → Covers fs t → Covers gs t
+pub covers_more : (fs gs : List TermEntry) → ((x : List ℕ) (i : ℕ) (T : Ty) → is_some (find_term x i T fs) ≡ true → is_some (find_term x i T gs) ≡ true) → (t : Tm) → Covers fs t → Covers gs t
 covers_more fs gs g (Const x T) h = tt
 covers_more fs gs g (Free x T) h = tt
 covers_more fs gs g (Unknown x i T) h = g x i T h
@@ -239,7 +239,7 @@ term_snoc_has (e ∷ es) x i T = go (name_eq x e.name && (nat_eq i e.number && t
     go true k = refl
     go false k = k
 
-asks_unknowns : (es : List TermEntry) (t : Tm) → AsksTerms es (with_unknowns es t) (λ us. Covers us t)
+pub asks_unknowns : (es : List TermEntry) (t : Tm) → AsksTerms es (with_unknowns es t) (λ us. Covers us t)
 asks_unknowns es (Const x T) = record { grows = λ y j U h. h; has = tt }
 asks_unknowns es (Free x T) = record { grows = λ y j U h. h; has = tt }
 asks_unknowns es (Bound n) = record { grows = λ y j U h. h; has = tt }

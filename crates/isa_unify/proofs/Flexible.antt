@@ -1,5 +1,5 @@
 -- Unknowns applied to bound variables.
-use Rattle.std.proofs.Common.{◌≡◌, ℕ, List, [], ◌∷◌, ◌++◌, Bool, true, false, ◌&&◌, ◌||◌, not, nat_eq, refl, sym, ap, subst, ◌∙◌, Option, Some, None}
+use Rattle.std.proofs.Common.{◌≡◌, ℕ, ◌⊎◌, inl, inr, List, [], ◌∷◌, ◌++◌, Bool, true, false, ◌&&◌, ◌||◌, not, nat_eq, cond, refl, sym, ap, subst, ◌∙◌, Option, Some, None}
 use Rattle.std.specs.List.{slice_get}
 use Rattle.isa_terms.specs.Types.{Ty}
 use Rattle.isa_terms.specs.Terms.{Tm, Const, Free, Unknown, Bound, Abs, App}
@@ -9,12 +9,11 @@ use Rattle.isa_terms.specs.Instance.{Instance, inst_tm}
 use Rattle.isa_terms.specs.declared.inst.TypeEntry.{TypeEntry}
 use Rattle.isa_terms.specs.declared.inst.TermEntry.{TermEntry}
 use Rattle.isa_terms.specs.Typed.{Typed, TUnknown, TBound, TApp}
-use Rattle.isa_terms.proofs.Heads.{IsRigid}
 use Rattle.isa_unify.specs.TypeUnification.{ty_has}
-use Rattle.isa_unify.specs.Matching.{Binder, Flexible, flexible, applied, solved, matched, has_unknown, has_type_unknown, app_parts, ◌>>=◌}
-use Rattle.isa_unify.proofs.Tests.{some_same}
+use Rattle.isa_unify.specs.Matching.{Binder, Flexible, flexible, applied, is_fixed, unless_fixed, to_solve, solved, matched, has_unknown, has_type_unknown, app_parts, ◌>>=◌}
+use Rattle.isa_unify.proofs.Tests.{some_same, both_true, and_true, or_mono}
 
-pub flexible_matched : (G : List Binder) (s : Instance) (p t : Tm) (h : Flexible) → flexible p ≡ Some h → matched G s p t ≡ solved G s h t
+pub flexible_matched : (G : List Binder) (s : Instance) (p t : Tm) (h : Flexible) → to_solve s p ≡ Some h → matched G s p t ≡ solved G s h t
 flexible_matched G s (Unknown x i T) t h e = ap (λ k. solved G s k t) (some_same e)
 flexible_matched G s (App f a) t h e = ap (λ o. elim o [ Some k ↦ solved G s k t | None ↦ (app_parts t >>= λ q. (matched G s f q.0 >>= λ r. matched G r a q.1)) ]) e
 flexible_matched G s (Const c T) t h e = absurd (cc)
@@ -128,7 +127,88 @@ abbrev pub are_distinct : List ℕ → Bool
 are_distinct [] = true
 are_distinct (n ∷ ns) = not (has_number ns n) && are_distinct ns
 
-abbrev pub IsPattern : Tm → Type 0
-IsPattern (App f a) = elim (flexible (App f a)) [ Some h ↦ are_distinct h.args ≡ true | None ↦ IsRigid f × (IsPattern f × IsPattern a) ]
-IsPattern (Abs x T b) = IsPattern b
-IsPattern _ = Unit {0}
+-- an unknown applied to distinct bound variables
+pub record IsSpread (p : Tm) : Type 0 where
+  pub head : Flexible
+  pub is : flexible p ≡ Some head
+  pub distinct : are_distinct head.args ≡ true
+
+-- what is applied is a constant, a free variable, a bound one, or an unknown that counts as a constant
+abbrev pub IsStiff : Instance → Tm → Type 0
+IsStiff s (App f a) = IsStiff s f
+IsStiff s (Abs x T b) = ⊥
+IsStiff s (Unknown x i T) = is_fixed s x i T ≡ true
+IsStiff s t = Unit {0}
+
+abbrev pub IsPattern : Instance → Tm → Type 0
+IsPattern s (App f a) = IsSpread (App f a) ⊎ (IsStiff s f × (IsPattern s f × IsPattern s a))
+IsPattern s (Abs x T b) = IsPattern s b
+IsPattern s _ = Unit {0}
+
+pub solve_flexible : (s : Instance) (o : Option Flexible) (h : Flexible) → unless_fixed s o ≡ Some h → (o ≡ Some h) × (is_fixed s h.name h.number h.typ ≡ false)
+solve_flexible s None h e = absurd (cc)
+solve_flexible s (Some k) h e = go (is_fixed s k.name k.number k.typ) refl e
+  where
+    go : (b : Bool) → is_fixed s k.name k.number k.typ ≡ b → cond b None (Some k) ≡ Some h → (Some k ≡ Some h) × (is_fixed s h.name h.number h.typ ≡ false)
+    go true f g = absurd (cc)
+    go false f g = (g, subst (λ (l : Flexible). is_fixed s l.name l.number l.typ ≡ false) (some_same g) f)
+
+-- where a spine isn't to be solved, its head counts as a constant
+pub fixed_flexible : (s : Instance) (o : Option Flexible) (h : Flexible) → o ≡ Some h → unless_fixed s o ≡ None → is_fixed s h.name h.number h.typ ≡ true
+fixed_flexible s None h e n = absurd (cc)
+fixed_flexible s (Some k) h e n = subst (λ (l : Flexible). is_fixed s l.name l.number l.typ ≡ true) (some_same e) (go (is_fixed s k.name k.number k.typ) n)
+  where
+    go : (b : Bool) → cond b None (Some k) ≡ None → b ≡ true
+    go true f = refl
+    go false f = absurd (cc)
+
+pub flexible_stiff : (s : Instance) (p : Tm) (h : Flexible) → flexible p ≡ Some h → is_fixed s h.name h.number h.typ ≡ true → IsStiff s p
+flexible_stiff s (Unknown x i T) h e f = subst (λ (k : Flexible). is_fixed s k.name k.number k.typ ≡ true) (sym (some_same e)) f
+flexible_stiff s (App f a) h e k = let c = flexible_app f a h e in flexible_stiff s f c.front c.fun (subst (λ (l : Flexible). is_fixed s l.name l.number l.typ ≡ true) c.all k)
+flexible_stiff s (Const c T) h e f = absurd (cc)
+flexible_stiff s (Free x T) h e f = absurd (cc)
+flexible_stiff s (Bound n) h e f = absurd (cc)
+flexible_stiff s (Abs x T b) h e f = absurd (cc)
+
+pub flexible_not_stiff : (s : Instance) (p : Tm) (h : Flexible) → flexible p ≡ Some h → is_fixed s h.name h.number h.typ ≡ false → IsStiff s p → ⊥
+flexible_not_stiff s (Unknown x i T) h e f k = let g : is_fixed s x i T ≡ false = subst (λ (l : Flexible). is_fixed s l.name l.number l.typ ≡ false) (sym (some_same e)) f in absurd (cc)
+flexible_not_stiff s (App f a) h e k l = let c = flexible_app f a h e in flexible_not_stiff s f c.front c.fun (subst (λ (m : Flexible). is_fixed s m.name m.number m.typ ≡ false) c.all k) l
+flexible_not_stiff s (Const c T) h e f k = absurd (cc)
+flexible_not_stiff s (Free x T) h e f k = absurd (cc)
+flexible_not_stiff s (Bound n) h e f k = absurd (cc)
+flexible_not_stiff s (Abs x T b) h e f k = absurd (cc)
+
+-- all but the last of distinct numbers
+front_distinct : (ns : List ℕ) (n : ℕ) → are_distinct (ns ++ n ∷ []) ≡ true → are_distinct ns ≡ true
+front_distinct [] n h = refl
+front_distinct (m ∷ ns) n h =
+    let p = both_true (not (has_number (ns ++ n ∷ []) m)) (are_distinct (ns ++ n ∷ [])) h in
+    and_true (not (has_number ns m)) (are_distinct ns) (fewer ns (has_number (ns ++ n ∷ []) m) (has_number ns m) p.0 (has_front ns n m)) (front_distinct ns n p.1)
+  where
+    has_front : (ns : List ℕ) (n m : ℕ) → has_number ns m ≡ true → has_number (ns ++ n ∷ []) m ≡ true
+    has_front [] n m h = absurd (cc)
+    has_front (k ∷ ns) n m h = or_mono (nat_eq k m) (has_number ns m) (nat_eq k m) (has_number (ns ++ n ∷ []) m) (λ e. e) (has_front ns n m) h
+
+    fewer : (ns : List ℕ) (b c : Bool) → not b ≡ true → (c ≡ true → b ≡ true) → not c ≡ true
+    fewer ns true c h f = absurd (cc)
+    fewer ns false true h f = let e : false ≡ true = f refl in absurd (cc)
+    fewer ns false false h f = refl
+
+spread_pattern : (s : Instance) (p : Tm) → IsSpread p → IsPattern s p
+spread_pattern s (App f a) h = inl h
+spread_pattern s (Unknown x i T) h = tt
+spread_pattern s (Const c T) h = tt
+spread_pattern s (Free x T) h = tt
+spread_pattern s (Bound n) h = tt
+spread_pattern s (Abs x T b) h = let e = h.is in absurd (cc)
+
+-- the parts of an unknown that counts as a constant, applied to distinct bound variables
+pub spread_parts : (s : Instance) (f a : Tm) (h : IsSpread (App f a)) → is_fixed s h.head.name h.head.number h.head.typ ≡ true → IsStiff s f × (IsPattern s f × IsPattern s a)
+spread_parts s f a h e =
+    let c = flexible_app f a h.head h.is in (
+      flexible_stiff s f c.front c.fun (subst (λ (m : Flexible). is_fixed s m.name m.number m.typ ≡ true) c.all e),
+      (
+        spread_pattern s f (record { head = c.front; is = c.fun; distinct = front_distinct c.front.args c.last (subst (λ (m : Flexible). are_distinct m.args ≡ true) c.all h.distinct) }),
+        subst (IsPattern s) (sym c.arg) tt,
+      ),
+    )

@@ -31,7 +31,8 @@ use Rattle.isa_unify.proofs.Meaning.{IsAtom, head_atom, head_rigid, EachHolds, P
 use Rattle.isa_unify.proofs.Backward.{SameType, IsDecided, parts_back}
 use Rattle.isa_unify.proofs.Ready.{AllTyped, all_normal_append, all_typed_append, PartsTyped, parts_typed, parts_normal, abs_parts_typed, open_typed, swapped}
 use Rattle.isa_unify.proofs.Changing.{Sig, KnownKey, Ready, AllSided, typed_sided}
-use Rattle.isa_unify.proofs.Outcomes.{Outcome, finished, retyped_outcome, retyped_holds, retyped_fit, retyped_values, retyped_sig}
+use Rattle.isa_unify.proofs.Outcomes.{Outcome, finished, retyped_outcome, retyped_holds, retyped_fit, retyped_values, retyped_sig, entries_nothing}
+use Rattle.isa_unify.proofs.TypeInstances.{inst_nothing}
 use Rattle.isa_unify.proofs.Deciding.{unknown, applied_is, AreBounds, distinct_bounds_are}
 use Rattle.isa_unify.proofs.Solving.{front_left, front_right, stands_on_bounds}
 use Rattle.isa_unify.proofs.Leading.{Leads, retyped_ready, retyped_all_typed}
@@ -408,6 +409,9 @@ module _ (sig : Sig) (st : State) (e : Equation) (ready : Ready sig (with_first 
   into_view : (es : List Equation) → parts_at e.binders e.left e.right ≡ Into es → Leads sig Whole (with_parts es)
   into_view es q = record {
     new_sig = sig;
+    by = [];
+    by_sig = λ x i h. sym (inst_nothing (sig x i));
+    by_types = entries_nothing st.types;
     ready = record {
       typed = all_typed_append es st.equations (subst PartsTyped q (parts_typed e.binders e.left e.right ready.normal.0.0 ready.normal.0.1 ready.typed.0)) ready.typed.1;
       normal = all_normal_append es st.equations (parts_normal e.binders e.left e.right es ready.normal.0.0 ready.normal.0.1 (subst (λ x. AreParts x es) (sym q) refl)) ready.normal.1;
@@ -433,6 +437,9 @@ module _ (sig : Sig) (st : State) (e : Equation) (ready : Ready sig (with_first 
           let typed : AllTyped (map (retyped_equation s) (es ++ st.equations)) = split es (subst PartsTyped q (parts_typed e.binders e.left e.right ready.normal.0.0 ready.normal.0.1 ready.typed.0) s g.unifies.0) (retyped_all_typed s st.equations ready.typed.1) in
           record {
             new_sig = retyped_sig s sig;
+            by = s;
+            by_sig = λ x i h. refl;
+            by_types = refl;
             ready = retyped_ready sig (with_parts es) s typed (all_normal_append es st.equations (parts_normal e.binders e.left e.right es ready.normal.0.0 ready.normal.0.1 a) ready.normal.1) known ready.terms_typed ready.terms_known;
             outcome = λ ts fs o. outcome s g known sided ts fs o;
             refuted = λ no r v f h.

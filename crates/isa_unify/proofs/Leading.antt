@@ -1,5 +1,5 @@
 -- What a step from one state to another says of both.
-use Rattle.std.proofs.Common.{◌≡◌, ◌⊎◌, inl, inr, ℕ, ◌+◌, List, [], ◌∷◌, map, true, false, not, ◌&&◌, ◌||◌, nat_eq, refl, sym, ap, ◌∙◌, subst}
+use Rattle.std.proofs.Common.{◌≡◌, ◌⊎◌, inl, inr, ℕ, ◌+◌, ◌<◌, List, [], ◌∷◌, map, true, false, not, ◌&&◌, ◌||◌, nat_eq, refl, sym, ap, ◌∙◌, subst}
 use Rattle.isa_terms.specs.Terms.{Tm, Const, Free, Unknown, Bound, Abs, App}
 use Rattle.isa_terms.specs.Norm.{loose}
 use Rattle.isa_terms.specs.Normal.{redex, IsHead, IsNormal}
@@ -13,13 +13,15 @@ use Rattle.isa_terms.proofs.Valuations.{Values, AreFit}
 use Rattle.isa_unify.specs.declared.equation.Equation.{Equation}
 use Rattle.isa_unify.specs.declared.progress.State.{State}
 use Rattle.isa_unify.specs.Unification.{filled, filled_equation, filled_entry, retyped, retyped_equation, retyped_entry, retyped_state}
-use Rattle.isa_unify.proofs.Unknowns.{Key, stands, either_true, or_left, or_right}
+use Rattle.isa_unify.specs.TypeUnification.{entries_under}
+use Rattle.isa_unify.proofs.TypeInstances.{inst_nothing}
+use Rattle.isa_unify.proofs.Unknowns.{Key, key, stands, either_true, or_left, or_right}
 use Rattle.isa_unify.proofs.Measure.{occurs}
 use Rattle.isa_unify.proofs.Assigned.{some_term_has, assigns, stands-filled, occurs-filled, retyped_key, CameFrom, stands-retyped, occurs-retyped}
 use Rattle.isa_unify.proofs.Meaning.{EachHolds}
 use Rattle.isa_unify.proofs.Ready.{AllNormal, AllTyped, retyped_typed}
 use Rattle.isa_unify.proofs.Changing.{Sig, KnownKey, TermsTyped, Ready, assigned_typed, filled_typed}
-use Rattle.isa_unify.proofs.Outcomes.{Outcome, Assignment, extended_holds, retyped_sig}
+use Rattle.isa_unify.proofs.Outcomes.{Outcome, Assignment, extended_holds, retyped_sig, entries_nothing}
 
 -- no instance solves the state
 abbrev pub Hopeless : State → Type 0
@@ -29,6 +31,9 @@ Hopeless st = (r : List TypeEntry) (v : Values) → AreFit r v → EachHolds r v
 pub record Leads (sig : Sig) (st new : State) : Type 0 where
   pub new_sig : Sig
   pub ready : Ready new_sig new
+  pub by : List TypeEntry
+  pub by_sig : (x : List ℕ) (i : ℕ) → i < st.next → new_sig x i ≡ inst_ty by (sig x i)
+  pub by_types : new.types ≡ entries_under by st.types
   pub outcome : (ts : List TypeEntry) (fs : List TermEntry) → Outcome new_sig new ts fs → Outcome sig st ts fs
   pub refuted : Hopeless new → Hopeless st
 
@@ -62,13 +67,16 @@ filled_terms_has s k (e ∷ es) h = go (either_true (stands k (filled s e.term))
     go (inr d) ih = rest (ih d)
 
 pub assigned_leads : (sig : Sig) (st : State) → Ready sig st → (new_sig : Sig) (new : State) (s : List TermEntry) (a : Assignment sig st new_sig new s) (eqs : List Equation)
-    → new.equations ≡ map (filled_equation s) eqs → new.terms ≡ map (filled_entry s) st.terms
+    → new.equations ≡ map (filled_equation s) eqs → new.terms ≡ map (filled_entry s) st.terms → new.types ≡ st.types
     → AllTyped eqs → ((k : Key) → occurs k eqs ≡ true → KnownKey sig st.next k)
     → ((r : List TypeEntry) (v : Values) → EachHolds r v st.equations → EachHolds r v eqs)
     → ((ts : List TypeEntry) (fs : List TermEntry) → Outcome new_sig new ts fs → Outcome sig st ts fs)
     → Leads sig st new
-assigned_leads sig st ready new_sig new s a eqs is is_terms typed known some outcome = record {
+assigned_leads sig st ready new_sig new s a eqs is is_terms is_types typed known some outcome = record {
   new_sig = new_sig;
+  by = [];
+  by_sig = λ x i h. sym (a.more (key x i (sig x i)) (refl, h)).0 ∙ sym (inst_nothing (sig x i));
+  by_types = is_types ∙ entries_nothing st.types;
   ready = record {
     typed = subst AllTyped (sym is) (filled_all_typed s a.kept eqs typed);
     normal = subst AllNormal (sym is) (filled_all_normal s a.kept eqs typed);

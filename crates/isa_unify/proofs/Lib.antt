@@ -47,3 +47,5 @@ pub mod Asked
 pub mod YesAnswers
 pub mod Right
 pub mod MatchClashes
+pub mod GoingOn
+pub mod ConstantLaws

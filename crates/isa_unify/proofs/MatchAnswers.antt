@@ -15,14 +15,14 @@ use Rattle.isa_terms.proofs.Typed.{typed_of_type}
 use Rattle.isa_terms.proofs.Conv.{right_typed, norm_conv}
 use Rattle.isa_terms.proofs.NormalForms.{norm_same}
 use Rattle.isa_terms.proofs.Instances.{inst_typed}
-use Rattle.isa_terms.proofs.Heads.{IsRigid, one_type}
+use Rattle.isa_terms.proofs.Heads.{one_type}
 use Rattle.isa_terms.proofs.Unique.{conv_norm}
 use Rattle.isa_unify.specs.TypeUnification.{ty_has}
-use Rattle.isa_unify.specs.Matching.{Flexible, flexible, applied, matched, ty_matched, has_unknown, has_type_unknown, closed_type, match_from, match_of, IsAsked, IsMatch, DoesAs, IsTheMatch, ◌>>=◌}
+use Rattle.isa_unify.specs.Matching.{Flexible, flexible, applied, is_fixed, is_open, is_pattern_from, matched, ty_matched, has_unknown, has_type_unknown, closed_type, match_from, match_of, IsAsked, IsMatch, DoesAs, IsTheMatch, ◌>>=◌}
 use Rattle.isa_unify.proofs.Tests.{both_true, and_true, or_left, or_right, either_true, neither_true, same_test, some_same}
 use Rattle.isa_unify.proofs.TypeMatches.{types_within_self, ty_finds, ty_completes}
-use Rattle.isa_unify.proofs.Flexible.{has_number, are_distinct, IsPattern}
-use Rattle.isa_unify.proofs.PatternMatches.{terms_within_self, AllGood, good_kept, good_normal, flexible_not_rigid, sound}
+use Rattle.isa_unify.proofs.Flexible.{has_number, are_distinct, IsSpread, IsStiff, IsPattern}
+use Rattle.isa_unify.proofs.PatternMatches.{terms_within_self, AllGood, good_kept, good_normal, sound}
 use Rattle.isa_unify.proofs.PatternComplete.{Agrees, Covers, completes}
 
 -- ---- patterns by their parts
@@ -52,13 +52,13 @@ distinct_last (m ∷ ns) n d h =
     let q = neither_true (nat_eq m n) (has_number ns n) h in
     and_true (not (has_number (ns ++ n ∷ []) m)) (are_distinct (ns ++ n ∷ [])) (not_false (has_number (ns ++ n ∷ []) m) (has_last ns n m (not_true (has_number ns m) p.0) (number_other m n q.0))) (distinct_last ns n p.1 q.1)
 
-record IsSpread (f : Tm) : Type 0 where
+record IsSpreadOut (f : Tm) : Type 0 where
   head : Flexible
   is : flexible f ≡ Some head
   distinct : are_distinct head.args ≡ true
   only : (i : ℕ) → is_argument i f ≡ false → has_number head.args i ≡ false
 
-spread_app : (f a : Tm) → IsSpread f → is_new_bound f a ≡ true → IsSpread (App f a)
+spread_app : (f a : Tm) → IsSpreadOut f → is_new_bound f a ≡ true → IsSpreadOut (App f a)
 spread_app f (Bound n) s h =
     let g = s.head in
     record {
@@ -73,7 +73,7 @@ spread_app f (Unknown c i T) s h = absurd (cc)
 spread_app f (Abs c T b) s h = absurd (cc)
 spread_app f (App c b) s h = absurd (cc)
 
-spread : (f : Tm) → is_unknown (head_of f) ≡ true → distinct_args f ≡ true → IsSpread f
+spread : (f : Tm) → is_unknown (head_of f) ≡ true → distinct_args f ≡ true → IsSpreadOut f
 spread (Unknown x i T) u d = record { head = record { name = x; number = i; typ = T; args = [] }; is = refl; distinct = refl; only = λ i h. refl }
 spread (App f a) u d = let p = both_true (is_new_bound f a) (distinct_args f) d in spread_app f a (spread f u p.1) p.0
 spread (Const c T) u d = absurd (cc)
@@ -81,33 +81,61 @@ spread (Free c T) u d = absurd (cc)
 spread (Bound n) u d = absurd (cc)
 spread (Abs x T b) u d = absurd (cc)
 
-rigid_of : (f : Tm) → IsHead f → IsNormal f → is_unknown (head_of f) ≡ false → IsRigid f
-rigid_of (Const c T) h n u = tt
-rigid_of (Free c T) h n u = tt
-rigid_of (Bound k) h n u = tt
-rigid_of (Unknown x i T) h n u = absurd (cc)
-rigid_of (Abs x T b) h n u = absurd h
-rigid_of (App f a) h n u = rigid_of f n.0 n.1.0 u
+stiff_of : (s : Instance) (f : Tm) → IsHead f → IsNormal f → is_open s (head_of f) ≡ false → IsStiff s f
+stiff_of s (Const c T) h n u = tt
+stiff_of s (Free c T) h n u = tt
+stiff_of s (Bound k) h n u = tt
+stiff_of s (Unknown x i T) h n u = not_so (is_fixed s x i T) u
+  where
+    not_so : (b : Bool) → not b ≡ false → b ≡ true
+    not_so true e = refl
+    not_so false e = absurd (cc)
+stiff_of s (Abs x T b) h n u = absurd h
+stiff_of s (App f a) h n u = stiff_of s f n.0 n.1.0 u
 
-rigid_app : (f a : Tm) (o : Option Flexible) → flexible (App f a) ≡ o → IsRigid f → IsPattern f → IsPattern a → elim o as (λ _. Type 0) [ Some h ↦ are_distinct h.args ≡ true | None ↦ IsRigid f × (IsPattern f × IsPattern a) ]
-rigid_app f a (Some h) e r pf pa = absurd (flexible_not_rigid (App f a) h e r)
-rigid_app f a None e r pf pa = (r, (pf, pa))
+spread_out : (p : Tm) → IsSpreadOut p → IsSpread p
+spread_out p h = record { head = h.head; is = h.is; distinct = h.distinct }
 
-app_pattern : (f a : Tm) (c : Bool) → is_unknown (head_of f) ≡ c → cond c (distinct_args (App f a)) (is_pattern f && is_pattern a) ≡ true → IsHead f → IsNormal f → (is_pattern f ≡ true → IsPattern f) → (is_pattern a ≡ true → IsPattern a) → IsPattern (App f a)
-app_pattern f a true u h hd n pf pa =
-    let s = spread (App f a) u h in
-    subst (λ o. elim o as (λ _. Type 0) [ Some k ↦ are_distinct k.args ≡ true | None ↦ IsRigid f × (IsPattern f × IsPattern a) ]) (sym s.is) s.distinct
-app_pattern f a false u h hd n pf pa =
-    let p = both_true (is_pattern f) (is_pattern a) h in
-    rigid_app f a (flexible (App f a)) refl (rigid_of f hd n u) (pf p.0) (pa p.1)
+open_unknown : (s : Instance) (t : Tm) → is_open s t ≡ true → is_unknown t ≡ true
+open_unknown s (Unknown x i T) h = refl
+open_unknown s (Const c T) h = absurd (cc)
+open_unknown s (Free c T) h = absurd (cc)
+open_unknown s (Bound n) h = absurd (cc)
+open_unknown s (Abs x T b) h = absurd (cc)
+open_unknown s (App f a) h = absurd (cc)
 
-pub pattern_parts : (p : Tm) → IsNormal p → is_pattern p ≡ true → IsPattern p
-pattern_parts (Const c T) n h = tt
-pattern_parts (Free c T) n h = tt
-pattern_parts (Unknown x i T) n h = tt
-pattern_parts (Bound k) n h = tt
-pattern_parts (Abs x T b) n h = pattern_parts b n.0 h
-pattern_parts (App f a) n h = app_pattern f a (is_unknown (head_of f)) refl h n.0 n.1.0 (pattern_parts f n.1.0) (pattern_parts a n.1.1)
+not_open : (s : Instance) (t : Tm) → is_unknown t ≡ false → is_open s t ≡ false
+not_open s (Unknown x i T) h = absurd (cc)
+not_open s (Const c T) h = refl
+not_open s (Free c T) h = refl
+not_open s (Bound n) h = refl
+not_open s (Abs x T b) h = refl
+not_open s (App f a) h = refl
+
+app_pattern_from : (s : Instance) (f a : Tm) (c : Bool) → is_open s (head_of f) ≡ c → cond c (distinct_args (App f a)) (is_pattern_from s f && is_pattern_from s a) ≡ true → IsHead f → IsNormal f → (is_pattern_from s f ≡ true → IsPattern s f) → (is_pattern_from s a ≡ true → IsPattern s a) → IsPattern s (App f a)
+app_pattern_from s f a true u h hd n pf pa = inl (spread_out (App f a) (spread (App f a) (open_unknown s (head_of f) u) h))
+app_pattern_from s f a false u h hd n pf pa = let p = both_true (is_pattern_from s f) (is_pattern_from s a) h in inr (stiff_of s f hd n u, (pf p.0, pa p.1))
+
+-- a pattern, but for what counts as a constant
+pub pattern_parts_from : (s : Instance) (p : Tm) → IsNormal p → is_pattern_from s p ≡ true → IsPattern s p
+pattern_parts_from s (Const c T) n h = tt
+pattern_parts_from s (Free c T) n h = tt
+pattern_parts_from s (Unknown x i T) n h = tt
+pattern_parts_from s (Bound k) n h = tt
+pattern_parts_from s (Abs x T b) n h = pattern_parts_from s b n.0 h
+pattern_parts_from s (App f a) n h = app_pattern_from s f a (is_open s (head_of f)) refl h n.0 n.1.0 (pattern_parts_from s f n.1.0) (pattern_parts_from s a n.1.1)
+
+app_pattern : (s : Instance) (f a : Tm) (c : Bool) → is_unknown (head_of f) ≡ c → cond c (distinct_args (App f a)) (is_pattern f && is_pattern a) ≡ true → IsHead f → IsNormal f → (is_pattern f ≡ true → IsPattern s f) → (is_pattern a ≡ true → IsPattern s a) → IsPattern s (App f a)
+app_pattern s f a true u h hd n pf pa = inl (spread_out (App f a) (spread (App f a) u h))
+app_pattern s f a false u h hd n pf pa = let p = both_true (is_pattern f) (is_pattern a) h in inr (stiff_of s f hd n (not_open s (head_of f) u), (pf p.0, pa p.1))
+
+pub pattern_parts : (s : Instance) (p : Tm) → IsNormal p → is_pattern p ≡ true → IsPattern s p
+pattern_parts s (Const c T) n h = tt
+pattern_parts s (Free c T) n h = tt
+pattern_parts s (Unknown x i T) n h = tt
+pattern_parts s (Bound k) n h = tt
+pattern_parts s (Abs x T b) n h = pattern_parts s b n.0 h
+pattern_parts s (App f a) n h = app_pattern s f a (is_unknown (head_of f)) refl h n.0 n.1.0 (pattern_parts s f n.1.0) (pattern_parts s a n.1.1)
 
 -- ---- the type unknowns of a term's type stand in the term
 abbrev in_context : List ℕ → ℕ → List Ty → Bool
@@ -161,10 +189,13 @@ nothing = record { types = []; terms = [] }
 closed_is : (t : Tm) (T : Ty) → HasType t T → closed_type t ≡ Some T
 closed_is t T h = ap (λ r. elim r [ Ok T ↦ Some T | Err fault ↦ None ]) h
 
+pub steps_from : (s : Instance) (p t : Tm) (A B : Ty) → HasType p A → HasType t B → match_from s p t ≡ (ty_matched s A B >>= λ q. matched [] q p t)
+steps_from s p t A B d e =
+    ap (λ o. o >>= λ T. (closed_type t >>= λ U. (ty_matched s T U >>= λ q. matched [] q p t))) (closed_is p A d)
+    ∙ ap (λ o. o >>= λ U. (ty_matched s A U >>= λ q. matched [] q p t)) (closed_is t B e)
+
 pub from_steps : (s : Instance) (p t : Tm) → (k : IsAsked p t) → match_from s p t ≡ (ty_matched s k.pattern_type k.term_type >>= λ q. matched [] q p t)
-from_steps s p t k =
-    ap (λ o. o >>= λ T. (closed_type t >>= λ U. (ty_matched s T U >>= λ q. matched [] q p t))) (closed_is p k.pattern_type k.pattern_typed)
-    ∙ ap (λ o. o >>= λ U. (ty_matched s k.pattern_type U >>= λ q. matched [] q p t)) (closed_is t k.term_type k.term_typed)
+from_steps s p t k = steps_from s p t k.pattern_type k.term_type k.pattern_typed k.term_typed
 
 -- ---- where there is a match, it agrees with what is found
 agrees : (p t : Tm) (r : Instance) → IsAsked p t → IsMatch p t r → (q : Instance) × (match_of p t ≡ Some q) × Agrees q r
@@ -177,7 +208,7 @@ agrees p t r k m =
     let first = ty_completes k.pattern_type k.term_type nothing r.types (record { keeps = λ x i A h. absurd (cc) }) (λ x i h. cov.types x i (closed_type_has dp x i h)) e in
     let found = ty_finds k.pattern_type k.term_type nothing first.0 first.1 in
     let a : Agrees first.0 r = record { types = first.2; terms = λ x i T u h. let n : None ≡ Some u = ap (find_term x i T) (sym found.terms) ∙ h in absurd (cc) } in
-    let rest = completes p t [] [] k.pattern_type k.term_type first.0 r (pattern_parts p k.pattern_normal k.pattern) k.normal dp dt tt (inr found.fit) cov m.kept a m.gives in
+    let rest = completes p t [] [] k.pattern_type k.term_type first.0 r (subst (AllGood first.0.types) (sym found.terms) tt, pattern_parts first.0 p k.pattern_normal k.pattern) k.normal dp dt tt (inr found.fit) cov m.kept a m.gives in
     (rest.0, from_steps nothing p t k ∙ ap (λ o. o >>= λ s. matched [] s p t) first.1 ∙ rest.1, rest.2)
 
 pub no_match : (p t : Tm) → match_of p t ≡ None → IsAsked p t → (s : Instance) → IsMatch p t s → ⊥
@@ -192,7 +223,7 @@ is_match p t q s k f h =
     let dp = typed_of_type [] p k.pattern_type k.pattern_typed in
     let dt = typed_of_type [] t k.term_type k.term_typed in
     let types = ty_finds k.pattern_type k.term_type nothing q f in
-    let found = sound p t [] [] k.pattern_type k.term_type q s (pattern_parts p k.pattern_normal k.pattern) k.normal dp dt tt (inr types.fit) h in
+    let found = sound p t [] [] k.pattern_type k.term_type q s (subst (AllGood q.types) (sym types.terms) tt, pattern_parts q p k.pattern_normal k.pattern) k.normal dp dt tt (inr types.fit) h in
     let good = found.good (subst (AllGood q.types) (sym types.terms) tt) in (
       record {
         types = λ x i. same_test (is_some (find_type x i s.types)) (has_type_unknown x i p) (λ e. at_types x i dp (found.only_types x i e) (types.only x i)) (found.types x i);

@@ -8,7 +8,7 @@ use Rattle.isa_terms.specs.Normal.{IsHead, IsNormal}
 use Rattle.isa_terms.specs.Instance.{Instance, inst_ty}
 use Rattle.isa_terms.proofs.Heads.{IsRigid, normal_spine}
 use Rattle.isa_unify.specs.Spines.{head_of, args_of, is_flexible}
-use Rattle.isa_unify.specs.Matching.{Binder, Flexible, flexible, applied, solved, typed, matched, app_parts, ty_matched, match_of, IsAsked, IsMatch, ◌>>=◌}
+use Rattle.isa_unify.specs.Matching.{Binder, flexible, applied, unless_fixed, solved, typed, matched, app_parts, ty_matched, match_of, IsAsked, IsMatch, ◌>>=◌}
 use Rattle.isa_unify.specs.Unification.{opened}
 use Rattle.isa_unify.specs.Clashes.{TypesAgree, HeadsAgree, AreRigid, Clash, heads, numbers, argument, bodies, left, right, ClashHasNoMatch}
 use Rattle.isa_unify.proofs.Tests.{some_same, name_true, number_true}
@@ -114,7 +114,7 @@ app_case f a (Bound n) ih w D s = refl
 app_case f a (Abs x T b) ih w D s = refl
 
 app_opens : (f a t : Tm) → is_flexible f ≡ false → (D : List Binder) (s : Instance) → (app_parts t >>= λ q. (matched D s f q.0 >>= λ r. matched D r a q.1)) ≡ None → matched D s (App f a) t ≡ None
-app_opens f a t e D s h = ap (λ o. elim o as (λ _. Option Instance) [ Some k ↦ solved D s k t | None ↦ (app_parts t >>= λ q. (matched D s f q.0 >>= λ r. matched D r a q.1)) ]) (flexible_none (App f a) e) ∙ h
+app_opens f a t e D s h = ap (λ o. elim o as (λ _. Option Instance) [ Some k ↦ solved D s k t | None ↦ (app_parts t >>= λ q. (matched D s f q.0 >>= λ r. matched D r a q.1)) ]) (ap (unless_fixed s) (flexible_none (App f a) e)) ∙ h
 
 rigid_fails : (p t : Tm) → IsRigid p → is_flexible p ≡ false → Why p t → Nowhere p t
 rigid_fails (Const c T) (Const d U) r e w = const_fails c d T U w

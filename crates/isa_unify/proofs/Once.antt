@@ -225,7 +225,7 @@ mutual
   all_type_unknowns_once es NoTys o = o
   all_type_unknowns_once es (MoreTys T Ts) o = all_type_unknowns_once (with_type_unknowns es T) Ts (type_unknowns_once es T o)
 
-types_once : (es : List TypeEntry) (t : Tm) → Once same_type_unknown es → Once same_type_unknown (with_types es t)
+pub types_once : (es : List TypeEntry) (t : Tm) → Once same_type_unknown es → Once same_type_unknown (with_types es t)
 types_once es (Const x T) o = type_unknowns_once es T o
 types_once es (Free x T) o = type_unknowns_once es T o
 types_once es (Unknown x i T) o = type_unknowns_once es T o
@@ -233,7 +233,7 @@ types_once es (Bound n) o = o
 types_once es (Abs x T b) o = types_once (with_type_unknowns es T) b (type_unknowns_once es T o)
 types_once es (App f a) o = types_once (with_types es f) a (types_once es f o)
 
-unknowns_once : (es : List TermEntry) (t : Tm) → Once same_unknown es → Once same_unknown (with_unknowns es t)
+pub unknowns_once : (es : List TermEntry) (t : Tm) → Once same_unknown es → Once same_unknown (with_unknowns es t)
 unknowns_once es (Const x T) o = o
 unknowns_once es (Free x T) o = o
 unknowns_once es (Unknown x i T) o = go (is_some (find_term x i T es)) refl

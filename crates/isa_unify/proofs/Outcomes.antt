@@ -64,7 +64,7 @@ val_themselves (Bound n) = refl
 val_themselves (Abs x T b) = λ i. Abs x (inst_nothing T i) (val_themselves b i)
 val_themselves (App f a) = λ i. App (val_themselves f i) (val_themselves a i)
 
-entries_nothing : (es : List TypeEntry) → es ≡ entries_under [] es
+pub entries_nothing : (es : List TypeEntry) → es ≡ entries_under [] es
 entries_nothing [] = refl
 entries_nothing (e ∷ es) = λ i. record e { typ = sym (inst_nothing e.typ) i } ∷ entries_nothing es i
 
@@ -157,7 +157,7 @@ assigned_outcome sig st ready new_sig new s a ts fs is_types is_terms o there ba
 }
 
 -- ---- types for type unknowns
-entries_twice : (q r : List TypeEntry) (es : List TypeEntry) → entries_under r (entries_under q es) ≡ entries_under (types_after q r) es
+pub entries_twice : (q r : List TypeEntry) (es : List TypeEntry) → entries_under r (entries_under q es) ≡ entries_under (types_after q r) es
 entries_twice q r [] = refl
 entries_twice q r (e ∷ es) = λ i. record e { typ = sym (after_ty q r e.typ) i } ∷ entries_twice q r es i
 

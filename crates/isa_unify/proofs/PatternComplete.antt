@@ -1,5 +1,5 @@
 -- Where there is a match, matching of patterns finds it.
-use Rattle.std.proofs.Common.{◌≡◌, ℕ, List, [], ◌∷◌, map, Bool, true, false, ◌&&◌, nat_eq, refl, sym, ap, subst, ◌∙◌, cond, inl, inr, Option, Some, None, is_some}
+use Rattle.std.proofs.Common.{◌≡◌, ℕ, List, [], ◌∷◌, map, Bool, true, false, ◌&&◌, nat_eq, refl, sym, ap, subst, ◌∙◌, cond, inl, inr, Option, Some, None, is_some, unwrap_or}
 use Rattle.std.specs.Cmp.Lexicographic.{bytes_decides}
 use Rattle.std.proofs.lemmas.Bool.Decides.{Decides-eqb}
 use Rattle.isa_terms.specs.Types.{Ty}
@@ -7,7 +7,7 @@ use Rattle.isa_terms.specs.Terms.{Tm, Const, Free, Unknown, Bound, Abs, App, bar
 use Rattle.isa_terms.specs.Equal.{name_eq, ty_eq}
 use Rattle.isa_terms.specs.Typing.{function_of, HasType}
 use Rattle.isa_terms.specs.Replace.{raise}
-use Rattle.isa_terms.specs.Norm.{norm}
+use Rattle.isa_terms.specs.Norm.{norm, levels}
 use Rattle.isa_terms.specs.Normal.{IsHead, IsNormal}
 use Rattle.isa_terms.specs.Instance.{Instance, find_type, find_term, inst_ty, inst_tm}
 use Rattle.isa_terms.specs.declared.inst.TypeEntry.{TypeEntry}
@@ -18,18 +18,17 @@ use Rattle.isa_terms.specs.Conversion.{Conv}
 use Rattle.isa_terms.specs.Instances.{IsKept}
 use Rattle.isa_terms.proofs.Typed.{typed_of_type}
 use Rattle.isa_terms.proofs.FreeNames.{norm_same_conv}
-use Rattle.isa_terms.proofs.NormalForms.{norm_same}
+use Rattle.isa_terms.proofs.NormalForms.{norm_same, apply_head}
 use Rattle.isa_terms.proofs.Opening.{next_typed, open_conv, bodies_conv}
 use Rattle.isa_terms.proofs.Instances.{inst_typed, closed_anywhere}
-use Rattle.isa_terms.proofs.Heads.{IsRigid, app_norm, inst_rigid, rigid_spine}
 use Rattle.isa_terms.proofs.Unique.{app_typed, abs_typed, conv_norm}
 use Rattle.isa_unify.specs.TypeUnification.{ty_has}
-use Rattle.isa_unify.specs.Matching.{Binder, Flexible, flexible, is_closed, solved, bound_to, typed, matched, has_unknown, has_type_unknown, app_parts, ty_matched, ◌>>=◌}
+use Rattle.isa_unify.specs.Matching.{Binder, Flexible, flexible, is_fixed, to_solve, is_closed, solved, bound_to, typed, matched, has_unknown, has_type_unknown, app_parts, ty_matched, ◌>>=◌}
 use Rattle.isa_unify.proofs.Tests.{or_left, or_right, some_same, value_of}
 use Rattle.isa_unify.proofs.TypeMatches.{TypesWithin, types_within_self, Fit, ty_finds, ty_completes}
-use Rattle.isa_unify.proofs.Flexible.{apps, flexible_unknown, flexible_typed, are_distinct, IsPattern}
+use Rattle.isa_unify.proofs.Flexible.{apps, flexible_unknown, flexible_typed, are_distinct, IsStiff, IsPattern, solve_flexible, flexible_not_stiff}
 use Rattle.isa_unify.proofs.Solutions.{types_of, Fits, fits_more, fits_map, solution_exists, solution_is, solution_only, misses_all, conv_closed, fit_domain, fit_range}
-use Rattle.isa_unify.proofs.PatternMatches.{find_set_term, unknown_true, unknown_self, entry_of, with_term, Place, placed, sound, flexible_becomes, flexible_not_rigid, opened_normal}
+use Rattle.isa_unify.proofs.PatternMatches.{AllGood, find_set_term, unknown_true, unknown_self, entry_of, with_term, Place, Asked, asked_more, app_asked, fixed_place, fixed_is, placed, sound, flexible_becomes, opened_normal}
 
 -- the types of s are among those of r, and its terms are, but for the names of binders, the normal forms of those of r
 pub record Agrees (s r : Instance) : Type 0 where
@@ -51,7 +50,7 @@ covers_arg : {r : Instance} {f a : Tm} → Covers r (App f a) → Covers r a
 covers_arg {r} {f} {a} c = record { types = λ y i h. c.types y i (or_right (has_type_unknown y i f) (has_type_unknown y i a) h); terms = λ y i T h. c.terms y i T (or_right (has_unknown y i T f) (has_unknown y i T a) h) }
 
 abbrev pub Completes : Tm → Type 0
-Completes p = (t : Tm) (G : List Ty) (D : List Binder) (A B : Ty) (s r : Instance) → IsPattern p → IsNormal t → Typed G p A → Typed (types_of D) t B → Fits s.types G D → Place p s.types A B → Covers r p → IsKept r.types r.terms → Agrees s r → bare (norm (inst_tm r.types r.terms p)) ≡ bare t
+Completes p = (t : Tm) (G : List Ty) (D : List Binder) (A B : Ty) (s r : Instance) → Asked s p → IsNormal t → Typed G p A → Typed (types_of D) t B → Fits s.types G D → Place p s A B → Covers r p → IsKept r.types r.terms → Agrees s r → bare (norm (inst_tm r.types r.terms p)) ≡ bare t
     → (q : Instance) × (matched D s p t ≡ Some q) × Agrees q r
 
 -- ---- constants and free variables
@@ -159,12 +158,23 @@ flexible_completes p t h G D A B s r e dis n d f fits at cov kept a g =
       o.2,
     )
 
+-- an unknown that counts as a constant stands for itself, up to normal form
+fixed_value : (s r : Instance) → Agrees s r → (x : List ℕ) (i : ℕ) (T : Ty) → is_fixed s x i T ≡ true → bare (norm (inst_tm r.types r.terms (Unknown x i T))) ≡ Unknown x i T
+fixed_value s r a x i T f =
+    let u = fixed_is s x i T f in
+    let v = a.terms x i T u.0 u.1 in
+    ap (λ o. bare (norm (unwrap_or o (Unknown x i (inst_ty r.types T))))) v.1 ∙ v.2 ∙ u.2
+
+unknown_placed : (s r : Instance) (G K : List Ty) (x : List ℕ) (i : ℕ) (T A B : Ty) (t : Tm) → AllGood s.types s.terms → Typed G (Unknown x i T) A → Typed K t B → Agrees s r → Place (Unknown x i T) s A B → bare (norm (inst_tm r.types r.terms (Unknown x i T))) ≡ bare t → Fit s.types A B
+unknown_placed s r G K x i T A B t g d e a (inl f) h = fixed_place s K G x i T A B t g f d e (sym h ∙ fixed_value s r a x i T f)
+unknown_placed s r G K x i T A B t g d e a (inr f) h = f
+
 unknown_completes : (x : List ℕ) (i : ℕ) (T : Ty) → Completes (Unknown x i T)
 unknown_completes x i T t G D A B s r pat n e f fits pl cov kept a g =
-    flexible_completes (Unknown x i T) t (record { name = x; number = i; typ = T; args = [] }) G D A B s r refl refl n e f fits (placed (Unknown x i T) s.types A B (λ k. k) pl) cov kept a g
+    flexible_completes (Unknown x i T) t (record { name = x; number = i; typ = T; args = [] }) G D A B s r refl refl n e f fits (unknown_placed s r G (types_of D) x i T A B t pat.0 e f a pl g) cov kept a g
 
 -- ---- abstractions
-abs_both : (x : List ℕ) (T : Ty) (b : Tm) → Completes b → (y : List ℕ) (U : Ty) (c : Tm) (G : List Ty) (D : List Binder) (s r : Instance) (A2 B2 : Ty) → IsPattern b → IsNormal (Abs y U c) → Typed (T ∷ G) b A2 → Typed (U ∷ types_of D) c B2 → Fits s.types G D → Fit s.types (function_of T A2) (function_of U B2) → Covers r (Abs x T b) → IsKept r.types r.terms → Agrees s r → bare (norm (inst_tm r.types r.terms (Abs x T b))) ≡ bare (Abs y U c)
+abs_both : (x : List ℕ) (T : Ty) (b : Tm) → Completes b → (y : List ℕ) (U : Ty) (c : Tm) (G : List Ty) (D : List Binder) (s r : Instance) (A2 B2 : Ty) → Asked s b → IsNormal (Abs y U c) → Typed (T ∷ G) b A2 → Typed (U ∷ types_of D) c B2 → Fits s.types G D → Fit s.types (function_of T A2) (function_of U B2) → Covers r (Abs x T b) → IsKept r.types r.terms → Agrees s r → bare (norm (inst_tm r.types r.terms (Abs x T b))) ≡ bare (Abs y U c)
     → (q : Instance) × (matched (record { name = x; typ = U } ∷ D) s b c ≡ Some q) × Agrees q r
 abs_both x T b ih y U c G D s r A2 B2 pat n e f fits at cov kept a g =
     let K = types_of D in
@@ -177,7 +187,7 @@ abs_both x T b ih y U c G D s r A2 B2 pat n e f fits at cov kept a g =
     let inner = bodies_conv body f named in
     ih c (T ∷ G) under A2 B2 s r pat n.0 e f (fit_domain at, fits) (inr (fit_range at)) (covers_body cov) kept a (conv_norm inner ∙ ap bare (norm_same c n.0))
 
-abs_open : (x : List ℕ) (T : Ty) (b : Tm) → Completes b → (t : Tm) (G : List Ty) (D : List Binder) (s r : Instance) (A2 S R : Ty) → IsPattern b → IsHead t → IsNormal t → Typed (T ∷ G) b A2 → Typed (types_of D) t (function_of S R) → Fits s.types G D → Fit s.types (function_of T A2) (function_of S R) → Covers r (Abs x T b) → IsKept r.types r.terms → Agrees s r → bare (norm (inst_tm r.types r.terms (Abs x T b))) ≡ bare t
+abs_open : (x : List ℕ) (T : Ty) (b : Tm) → Completes b → (t : Tm) (G : List Ty) (D : List Binder) (s r : Instance) (A2 S R : Ty) → Asked s b → IsHead t → IsNormal t → Typed (T ∷ G) b A2 → Typed (types_of D) t (function_of S R) → Fits s.types G D → Fit s.types (function_of T A2) (function_of S R) → Covers r (Abs x T b) → IsKept r.types r.terms → Agrees s r → bare (norm (inst_tm r.types r.terms (Abs x T b))) ≡ bare t
     → (q : Instance) × (matched (record { name = x; typ = S } ∷ D) s b (App (raise 1 0 t) (Bound 0)) ≡ Some q) × Agrees q r
 abs_open x T b ih t G D s r A2 S R pat hd n e f fits at cov kept a g =
     let K = types_of D in
@@ -192,7 +202,7 @@ abs_open x T b ih t G D s r A2 S R pat hd n e f fits at cov kept a g =
     let inner = open_conv body named in
     ih opened (T ∷ G) under A2 R s r pat normal e (TApp (next_typed S f) (TBound refl)) (fit_domain at, fits) (inr (fit_range at)) (covers_body cov) kept a (conv_norm inner ∙ ap bare (norm_same opened normal))
 
-abs_opened : (x : List ℕ) (T : Ty) (b : Tm) → Completes b → (t : Tm) (G : List Ty) (D : List Binder) (A B : Ty) (s r : Instance) → IsPattern b → IsHead t → IsNormal t → Typed G (Abs x T b) A → Typed (types_of D) t B → Fits s.types G D → Fit s.types A B → Covers r (Abs x T b) → IsKept r.types r.terms → Agrees s r → bare (norm (inst_tm r.types r.terms (Abs x T b))) ≡ bare t
+abs_opened : (x : List ℕ) (T : Ty) (b : Tm) → Completes b → (t : Tm) (G : List Ty) (D : List Binder) (A B : Ty) (s r : Instance) → Asked s b → IsHead t → IsNormal t → Typed G (Abs x T b) A → Typed (types_of D) t B → Fits s.types G D → Fit s.types A B → Covers r (Abs x T b) → IsKept r.types r.terms → Agrees s r → bare (norm (inst_tm r.types r.terms (Abs x T b))) ≡ bare t
     → (q : Instance) × (matched (record { name = x; typ = inst_ty s.types T } ∷ D) s b (App (raise 1 0 t) (Bound 0)) ≡ Some q) × Agrees q r
 abs_opened x T b ih t G D A B s r pat hd n e f fits at cov kept a g =
     let p = abs_typed e in
@@ -204,13 +214,13 @@ abs_completes : (x : List ℕ) (T : Ty) (b : Tm) → Completes b → Completes (
 abs_completes x T b ih (Abs y U c) G D A B s r pat n e f fits pl cov kept a g =
     let p = abs_typed e in
     let q = abs_typed f in
-    let at : Fit s.types A B = placed (Abs x T b) s.types A B (λ k. k) pl in
+    let at : Fit s.types A B = placed (Abs x T b) s A B (λ k. k) pl in
     abs_both x T b ih y U c G D s r p.0 q.0 pat n p.2 q.2 fits (subst (λ V. Fit s.types V (function_of U q.0)) p.1 (subst (Fit s.types A) q.1 at)) cov kept a g
-abs_completes x T b ih (Const d U) G D A B s r pat n e f fits pl cov kept a g = abs_opened x T b ih (Const d U) G D A B s r pat tt n e f fits (placed (Abs x T b) s.types A B (λ k. k) pl) cov kept a g
-abs_completes x T b ih (Free d U) G D A B s r pat n e f fits pl cov kept a g = abs_opened x T b ih (Free d U) G D A B s r pat tt n e f fits (placed (Abs x T b) s.types A B (λ k. k) pl) cov kept a g
-abs_completes x T b ih (Unknown d i U) G D A B s r pat n e f fits pl cov kept a g = abs_opened x T b ih (Unknown d i U) G D A B s r pat tt n e f fits (placed (Abs x T b) s.types A B (λ k. k) pl) cov kept a g
-abs_completes x T b ih (Bound k) G D A B s r pat n e f fits pl cov kept a g = abs_opened x T b ih (Bound k) G D A B s r pat tt n e f fits (placed (Abs x T b) s.types A B (λ k. k) pl) cov kept a g
-abs_completes x T b ih (App h c) G D A B s r pat n e f fits pl cov kept a g = abs_opened x T b ih (App h c) G D A B s r pat tt n e f fits (placed (Abs x T b) s.types A B (λ k. k) pl) cov kept a g
+abs_completes x T b ih (Const d U) G D A B s r pat n e f fits pl cov kept a g = abs_opened x T b ih (Const d U) G D A B s r pat tt n e f fits (placed (Abs x T b) s A B (λ k. k) pl) cov kept a g
+abs_completes x T b ih (Free d U) G D A B s r pat n e f fits pl cov kept a g = abs_opened x T b ih (Free d U) G D A B s r pat tt n e f fits (placed (Abs x T b) s A B (λ k. k) pl) cov kept a g
+abs_completes x T b ih (Unknown d i U) G D A B s r pat n e f fits pl cov kept a g = abs_opened x T b ih (Unknown d i U) G D A B s r pat tt n e f fits (placed (Abs x T b) s A B (λ k. k) pl) cov kept a g
+abs_completes x T b ih (Bound k) G D A B s r pat n e f fits pl cov kept a g = abs_opened x T b ih (Bound k) G D A B s r pat tt n e f fits (placed (Abs x T b) s A B (λ k. k) pl) cov kept a g
+abs_completes x T b ih (App h c) G D A B s r pat n e f fits pl cov kept a g = abs_opened x T b ih (App h c) G D A B s r pat tt n e f fits (placed (Abs x T b) s A B (λ k. k) pl) cov kept a g
 
 -- ---- applications
 app_fun : {f g a b : Tm} → App f a ≡ App g b → f ≡ g
@@ -219,20 +229,39 @@ app_fun e = cc
 app_arg : {f g a b : Tm} → App f a ≡ App g b → a ≡ b
 app_arg e = cc
 
-inst_app : (r : Instance) (f a : Tm) → IsRigid f → bare (norm (inst_tm r.types r.terms (App f a))) ≡ App (bare (norm (inst_tm r.types r.terms f))) (bare (norm (inst_tm r.types r.terms a)))
-inst_app r f a rig = ap bare (app_norm (inst_tm r.types r.terms f) (inst_tm r.types r.terms a) (rigid_spine (inst_tm r.types r.terms f) (inst_rigid r.types r.terms f rig)))
+unknown_head : (t : Tm) (x : List ℕ) (i : ℕ) (T : Ty) → bare t ≡ Unknown x i T → IsHead t
+unknown_head (Unknown y j U) x i T e = tt
+unknown_head (Const y U) x i T e = tt
+unknown_head (Free y U) x i T e = tt
+unknown_head (Bound n) x i T e = tt
+unknown_head (App f a) x i T e = tt
+unknown_head (Abs y U b) x i T e = absurd (cc)
 
-app_rigid : (f a : Tm) → Completes f → Completes a → (g c : Tm) (G : List Ty) (D : List Binder) (A B : Ty) (s r : Instance) → IsRigid f → IsPattern f → IsPattern a → IsNormal (App g c) → Typed G (App f a) A → Typed (types_of D) (App g c) B → Fits s.types G D → Covers r (App f a) → IsKept r.types r.terms → Agrees s r → App (bare (norm (inst_tm r.types r.terms f))) (bare (norm (inst_tm r.types r.terms a))) ≡ bare (App g c)
+-- the instance of a stiff term is no abstraction
+stiff_head : (s r : Instance) → Agrees s r → (f : Tm) → IsStiff s f → IsHead (norm (inst_tm r.types r.terms f))
+stiff_head s r a (Const c T) h = tt
+stiff_head s r a (Free c T) h = tt
+stiff_head s r a (Bound n) h = tt
+stiff_head s r a (Unknown x i T) h = unknown_head (norm (inst_tm r.types r.terms (Unknown x i T))) x i T (fixed_value s r a x i T h)
+stiff_head s r a (Abs x T b) h = absurd h
+stiff_head s r a (App f c) h =
+    let g = norm (inst_tm r.types r.terms f) in
+    subst IsHead (sym (apply_head (levels g) g (norm (inst_tm r.types r.terms c)) (stiff_head s r a f h))) tt
+
+inst_app : (s r : Instance) (f a : Tm) → Agrees s r → IsStiff s f → bare (norm (inst_tm r.types r.terms (App f a))) ≡ App (bare (norm (inst_tm r.types r.terms f))) (bare (norm (inst_tm r.types r.terms a)))
+inst_app s r f a g h = let k = norm (inst_tm r.types r.terms f) in ap bare (apply_head (levels k) k (norm (inst_tm r.types r.terms a)) (stiff_head s r g f h))
+
+app_rigid : (f a : Tm) → Completes f → Completes a → (g c : Tm) (G : List Ty) (D : List Binder) (A B : Ty) (s r : Instance) → IsStiff s f → Asked s f → Asked s a → IsNormal (App g c) → Typed G (App f a) A → Typed (types_of D) (App g c) B → Fits s.types G D → Covers r (App f a) → IsKept r.types r.terms → Agrees s r → App (bare (norm (inst_tm r.types r.terms f))) (bare (norm (inst_tm r.types r.terms a))) ≡ bare (App g c)
     → (q : Instance) × ((matched D s f g >>= λ i. matched D i a c) ≡ Some q) × Agrees q r
 app_rigid f a ihf iha g c G D A B s r rig pf pa n d e fits cov kept agree k =
     let p = app_typed d in
     let p2 = app_typed e in
     let one = ihf g G D (function_of p.0 A) (function_of p2.0 B) s r pf n.1.0 p.1 p2.1 fits (inl rig) (covers_fun cov) kept agree (app_fun k) in
     let found = sound f g G D (function_of p.0 A) (function_of p2.0 B) s one.0 pf n.1.0 p.1 p2.1 fits (inl rig) one.1 in
-    let two = iha c G D p.0 p2.0 one.0 r pa n.1.1 p.2 p2.2 (fits_more G D found.types_within fits) (inr (fit_domain found.fit)) (covers_arg cov) kept one.2 (app_arg k) in
+    let two = iha c G D p.0 p2.0 one.0 r (asked_more D s one.0 f g a (function_of p.0 A) (function_of p2.0 B) found pa) n.1.1 p.2 p2.2 (fits_more G D found.types_within fits) (inr (fit_domain found.fit)) (covers_arg cov) kept one.2 (app_arg k) in
     (two.0, ap (λ o. o >>= λ i. matched D i a c) one.1 ∙ two.1, two.2)
 
-app_case : (f a : Tm) → Completes f → Completes a → (t : Tm) (G : List Ty) (D : List Binder) (A B : Ty) (s r : Instance) → IsRigid f → IsPattern f → IsPattern a → IsNormal t → Typed G (App f a) A → Typed (types_of D) t B → Fits s.types G D → Covers r (App f a) → IsKept r.types r.terms → Agrees s r → App (bare (norm (inst_tm r.types r.terms f))) (bare (norm (inst_tm r.types r.terms a))) ≡ bare t
+app_case : (f a : Tm) → Completes f → Completes a → (t : Tm) (G : List Ty) (D : List Binder) (A B : Ty) (s r : Instance) → IsStiff s f → Asked s f → Asked s a → IsNormal t → Typed G (App f a) A → Typed (types_of D) t B → Fits s.types G D → Covers r (App f a) → IsKept r.types r.terms → Agrees s r → App (bare (norm (inst_tm r.types r.terms f))) (bare (norm (inst_tm r.types r.terms a))) ≡ bare t
     → (q : Instance) × ((app_parts t >>= λ i. (matched D s f i.0 >>= λ j. matched D j a i.1)) ≡ Some q) × Agrees q r
 app_case f a ihf iha (App g c) G D A B s r rig pf pa n d e fits cov kept agree k = app_rigid f a ihf iha g c G D A B s r rig pf pa n d e fits cov kept agree k
 app_case f a ihf iha (Const y U) G D A B s r rig pf pa n d e fits cov kept agree k = absurd (cc)
@@ -241,15 +270,22 @@ app_case f a ihf iha (Unknown y i U) G D A B s r rig pf pa n d e fits cov kept a
 app_case f a ihf iha (Bound y) G D A B s r rig pf pa n d e fits cov kept agree k = absurd (cc)
 app_case f a ihf iha (Abs y U b) G D A B s r rig pf pa n d e fits cov kept agree k = absurd (cc)
 
-app_either : (f a : Tm) → Completes f → Completes a → (t : Tm) (G : List Ty) (D : List Binder) (A B : Ty) (s r : Instance) → (o : Option Flexible) → flexible (App f a) ≡ o → elim o as (λ _. Type 0) [ Some h ↦ are_distinct h.args ≡ true | None ↦ IsRigid f × (IsPattern f × IsPattern a) ] → IsNormal t → Typed G (App f a) A → Typed (types_of D) t B → Fits s.types G D → Place (App f a) s.types A B → Covers r (App f a) → IsKept r.types r.terms → Agrees s r → bare (norm (inst_tm r.types r.terms (App f a))) ≡ bare t
+-- the variables to which an unknown that is to be solved is applied
+solve_distinct : (s : Instance) (f a : Tm) (h : Flexible) → flexible (App f a) ≡ Some h → is_fixed s h.name h.number h.typ ≡ false → IsPattern s (App f a) → are_distinct h.args ≡ true
+solve_distinct s f a h e n (inl p) = subst (λ (k : Flexible). are_distinct k.args ≡ true) (some_same (sym p.is ∙ e)) p.distinct
+solve_distinct s f a h e n (inr p) = absurd (flexible_not_stiff s (App f a) h e n p.0)
+
+app_either : (f a : Tm) → Completes f → Completes a → (t : Tm) (G : List Ty) (D : List Binder) (A B : Ty) (s r : Instance) → (o : Option Flexible) → to_solve s (App f a) ≡ o → Asked s (App f a) → IsNormal t → Typed G (App f a) A → Typed (types_of D) t B → Fits s.types G D → Place (App f a) s A B → Covers r (App f a) → IsKept r.types r.terms → Agrees s r → bare (norm (inst_tm r.types r.terms (App f a))) ≡ bare t
     → (q : Instance) × (elim o as (λ _. Option Instance) [ Some h ↦ solved D s h t | None ↦ (app_parts t >>= λ i. (matched D s f i.0 >>= λ j. matched D j a i.1)) ] ≡ Some q) × Agrees q r
 app_either f a ihf iha t G D A B s r (Some h) e pat n d g fits pl cov kept agree k =
-    flexible_completes (App f a) t h G D A B s r e pat n d g fits (placed (App f a) s.types A B (λ rig. flexible_not_rigid (App f a) h e rig) pl) cov kept agree k
+    let is = solve_flexible s (flexible (App f a)) h e in
+    flexible_completes (App f a) t h G D A B s r is.0 (solve_distinct s f a h is.0 is.1 pat.1) n d g fits (placed (App f a) s A B (λ st. flexible_not_stiff s (App f a) h is.0 is.1 st) pl) cov kept agree k
 app_either f a ihf iha t G D A B s r None e pat n d g fits pl cov kept agree k =
-    app_case f a ihf iha t G D A B s r pat.0 pat.1.0 pat.1.1 n d g fits cov kept agree (sym (inst_app r f a pat.0) ∙ k)
+    let p = app_asked s f a e pat in
+    app_case f a ihf iha t G D A B s r p.0 p.1.0 p.1.1 n d g fits cov kept agree (sym (inst_app s r f a agree p.0) ∙ k)
 
 app_completes : (f a : Tm) → Completes f → Completes a → Completes (App f a)
-app_completes f a ihf iha t G D A B s r pat n d g fits pl cov kept agree k = app_either f a ihf iha t G D A B s r (flexible (App f a)) refl pat n d g fits pl cov kept agree k
+app_completes f a ihf iha t G D A B s r pat n d g fits pl cov kept agree k = app_either f a ihf iha t G D A B s r (to_solve s (App f a)) refl pat n d g fits pl cov kept agree k
 
 -- The matcher finds a match where there is one.
 pub completes : (p : Tm) → Completes p

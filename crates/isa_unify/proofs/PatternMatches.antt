@@ -13,7 +13,7 @@ use Rattle.isa_terms.specs.declared.inst.TypeEntry.{TypeEntry}
 use Rattle.isa_terms.specs.declared.inst.TermEntry.{TermEntry}
 use Rattle.isa_terms.proofs.Equal.{ty_decides}
 use Rattle.isa_terms.proofs.Bare.{tm_decides, type_at_bare}
-use Rattle.isa_terms.specs.Typed.{Typed, TConst, TFree, TBound, TApp}
+use Rattle.isa_terms.specs.Typed.{Typed, TConst, TFree, TUnknown, TBound, TApp}
 use Rattle.isa_terms.specs.Conversion.{Conv, CRefl, CTrans, CApp, CAbs}
 use Rattle.isa_terms.specs.Instances.{IsKept}
 use Rattle.isa_terms.proofs.Typed.{type_of_typed, typed_of_type}
@@ -21,13 +21,13 @@ use Rattle.isa_terms.proofs.FreeNames.{renamed_conv, same_conv}
 use Rattle.isa_terms.proofs.NormalForms.{raise_head, raise_normal}
 use Rattle.isa_terms.proofs.Opening.{next_typed, close_conv}
 use Rattle.isa_terms.proofs.Loose.{closed_has_type}
-use Rattle.isa_terms.proofs.Heads.{IsRigid}
+use Rattle.isa_terms.proofs.Heads.{one_type}
 use Rattle.isa_terms.proofs.Unique.{app_typed, abs_typed}
 use Rattle.isa_unify.specs.TypeUnification.{ty_has}
-use Rattle.isa_unify.specs.Matching.{Binder, Flexible, flexible, is_closed, solved, bound_to, typed, matched, has_unknown, has_type_unknown, app_parts, ◌>>=◌}
+use Rattle.isa_unify.specs.Matching.{Binder, Flexible, flexible, is_that, is_fixed, to_solve, is_closed, solved, bound_to, typed, matched, has_unknown, has_type_unknown, app_parts, ◌>>=◌}
 use Rattle.isa_unify.proofs.Tests.{both_true, and_true, or_left, or_right, some_same, value_of, name_self, name_true, number_self, number_true}
 use Rattle.isa_unify.proofs.TypeMatches.{TypesWithin, types_within_self, types_within_more, covers_more, Fit, fit_more, TyFinds, ty_finds, skipped, swapped}
-use Rattle.isa_unify.proofs.Flexible.{flexible_app, apps, flexible_inst, flexible_unknown, flexible_type_unknown, flexible_typed, are_distinct, IsPattern}
+use Rattle.isa_unify.proofs.Flexible.{apps, flexible_inst, flexible_unknown, flexible_type_unknown, flexible_typed, IsStiff, IsPattern, solve_flexible, fixed_flexible, flexible_not_stiff, spread_parts}
 use Rattle.isa_unify.proofs.Solutions.{types_of, Fits, fits_more, FitsAt, fits_get, types_get, fit_domain, fit_range, apps_conv, IsSolution, solution_exists, solution_is, closed_misses}
 
 -- ---- terms for unknowns
@@ -154,12 +154,81 @@ pub record Finds (D : List Binder) (s : Instance) (p t : Tm) (A B : Ty) (r : Ins
   pub only_terms : (x : List ℕ) (i : ℕ) (T : Ty) → is_some (find_term x i T r.terms) ≡ true → (is_some (find_term x i T s.terms) ≡ true) ⊎ (has_unknown x i T p ≡ true)
   pub good : AllGood s.types s.terms → AllGood r.types r.terms
 
--- an abstraction and an unknown ask that the types of their places are matched, a rigid term doesn't
-abbrev pub Place : Tm → List TypeEntry → Ty → Ty → Type 0
-Place p es A B = IsRigid p ⊎ Fit es A B
+-- an abstraction and an unknown ask that the types of their places are matched, a stiff term doesn't
+abbrev pub Place : Tm → Instance → Ty → Ty → Type 0
+Place p s A B = IsStiff s p ⊎ Fit s.types A B
+
+-- what is asked of a pattern where matching goes on from s
+abbrev pub Asked : Instance → Tm → Type 0
+Asked s p = AllGood s.types s.terms × IsPattern s p
+
+-- what counts as a constant goes on to do so
+fixed_more : (s r : Instance) → TermsWithin s.terms r.terms → (x : List ℕ) (i : ℕ) (T : Ty) → is_fixed s x i T ≡ true → is_fixed r x i T ≡ true
+fixed_more s r w x i T h = go (find_term x i T s.terms) refl h
+  where
+    go : (o : Option Tm) → find_term x i T s.terms ≡ o → is_that o (Unknown x i T) ≡ true → is_fixed r x i T ≡ true
+    go None e k = absurd (cc)
+    go (Some u) e k = ap (λ o. is_that o (Unknown x i T)) (w.keeps x i T u e) ∙ k
+
+stiff_more : (s r : Instance) → TermsWithin s.terms r.terms → (p : Tm) → IsStiff s p → IsStiff r p
+stiff_more s r w (App f a) h = stiff_more s r w f h
+stiff_more s r w (Abs x T b) h = absurd h
+stiff_more s r w (Unknown x i T) h = fixed_more s r w x i T h
+stiff_more s r w (Const c T) h = tt
+stiff_more s r w (Free x T) h = tt
+stiff_more s r w (Bound n) h = tt
+
+pub pattern_more : (s r : Instance) → TermsWithin s.terms r.terms → (p : Tm) → IsPattern s p → IsPattern r p
+pattern_more s r w (Const c T) h = tt
+pattern_more s r w (Free x T) h = tt
+pattern_more s r w (Unknown x i T) h = tt
+pattern_more s r w (Bound n) h = tt
+pattern_more s r w (Abs x T b) h = pattern_more s r w b h
+pattern_more s r w (App f a) (inl h) = inl h
+pattern_more s r w (App f a) (inr h) = inr (stiff_more s r w f h.0, (pattern_more s r w f h.1.0, pattern_more s r w a h.1.1))
+
+pub asked_more : (D : List Binder) (s r : Instance) (f g a : Tm) (A B : Ty) → Finds D s f g A B r → Asked s a → Asked r a
+asked_more D s r f g a A B h k = (h.good k.0, pattern_more s r h.terms_within a k.1)
+
+-- the entry of an unknown that counts as a constant
+good_found : (es : List TypeEntry) (fs : List TermEntry) (x : List ℕ) (i : ℕ) (T : Ty) (u : Tm) → AllGood es fs → find_term x i T fs ≡ Some u → (U : Ty) × Fit es T U × HasType u U
+good_found es [] x i T u g e = absurd (cc)
+good_found es (f ∷ fs) x i T u g e = go (name_eq x f.name && (nat_eq i f.number && ty_eq T f.typ)) refl e (good_found es fs x i T u g.1)
+  where
+    go : (c : Bool) → (name_eq x f.name && (nat_eq i f.number && ty_eq T f.typ)) ≡ c → cond c (Some f.term) (find_term x i T fs) ≡ Some u → (find_term x i T fs ≡ Some u → (U : Ty) × Fit es T U × HasType u U) → (U : Ty) × Fit es T U × HasType u U
+    go true h k ih =
+        let a = unknown_true x i T f.name f.number f.typ h in
+        (g.0.typ, subst (λ V. Fit es V g.0.typ) (sym a.2) g.0.fit, subst (λ v. HasType v g.0.typ) (some_same k) g.0.typed)
+    go false h k ih = ih k
+
+unknown_is : {G : List Ty} {x : List ℕ} {i : ℕ} {T A : Ty} → Typed G (Unknown x i T) A → T ≡ A
+unknown_is TUnknown = refl
+
+-- the type of the place of an unknown that counts as a constant
+pub fixed_place : (s : Instance) (K G : List Ty) (x : List ℕ) (i : ℕ) (T A B : Ty) (t : Tm) → AllGood s.types s.terms → is_fixed s x i T ≡ true → Typed G (Unknown x i T) A → Typed K t B → bare t ≡ Unknown x i T → Fit s.types A B
+fixed_place s K G x i T A B t g f d e same = go (find_term x i T s.terms) refl f
+  where
+    of_term : T ≡ B
+    of_term = one_type TUnknown e (sym same)
+
+    go : (o : Option Tm) → find_term x i T s.terms ≡ o → is_that o (Unknown x i T) ≡ true → Fit s.types A B
+    go None p q = absurd (cc)
+    go (Some u) p q =
+        let h = good_found s.types s.terms x i T u g p in
+        let b : bare u ≡ Unknown x i T = (tm_decides u (Unknown x i T)).0 q in
+        let own : h.0 ≡ T = one_type (typed_of_type [] u h.0 h.2) TUnknown b in
+        subst (λ V. Fit s.types V B) (unknown_is d) (subst (Fit s.types T) (own ∙ of_term) h.1)
+
+-- what stands for an unknown that counts as a constant is this one
+pub fixed_is : (s : Instance) (x : List ℕ) (i : ℕ) (T : Ty) → is_fixed s x i T ≡ true → (u : Tm) × (find_term x i T s.terms ≡ Some u) × (bare u ≡ Unknown x i T)
+fixed_is s x i T h = go (find_term x i T s.terms) refl h
+  where
+    go : (o : Option Tm) → find_term x i T s.terms ≡ o → is_that o (Unknown x i T) ≡ true → (u : Tm) × (find_term x i T s.terms ≡ Some u) × (bare u ≡ Unknown x i T)
+    go None e k = absurd (cc)
+    go (Some u) e k = (u, e, (tm_decides u (Unknown x i T)).0 k)
 
 abbrev pub Sound : Tm → Type 0
-Sound p = (t : Tm) (G : List Ty) (D : List Binder) (A B : Ty) (s r : Instance) → IsPattern p → IsNormal t → Typed G p A → Typed (types_of D) t B → Fits s.types G D → Place p s.types A B → matched D s p t ≡ Some r → Finds D s p t A B r
+Sound p = (t : Tm) (G : List Ty) (D : List Binder) (A B : Ty) (s r : Instance) → Asked s p → IsNormal t → Typed G p A → Typed (types_of D) t B → Fits s.types G D → Place p s A B → matched D s p t ≡ Some r → Finds D s p t A B r
 
 -- constants and free variables
 atom_finds : (D : List Binder) (s : Instance) (p t : Tm) (T U : Ty) (r : Instance) → TyFinds s T U r → ((x : List ℕ) (i : ℕ) → has_type_unknown x i p ≡ ty_has x i T) → ((x : List ℕ) (i : ℕ) (V : Ty) → has_unknown x i V p ≡ false) → ((q : Instance) → inst_ty q.types T ≡ U → Conv (types_of D) U (inst_tm q.types q.terms p) t) → Finds D s p t T U r
@@ -301,21 +370,31 @@ flexible_sound p t h G D A B s r e n d f fits a k =
     go u i true c l = bound_finds_term D s p t A B h u r (find_term h.name h.number h.typ s.terms) e a i c refl l
     go u i false c l = absurd (cc)
 
-pub flexible_not_rigid : (p : Tm) (h : Flexible) → flexible p ≡ Some h → IsRigid p → ⊥
-flexible_not_rigid (Unknown x i T) h e k = k
-flexible_not_rigid (App f a) h e k = let c = flexible_app f a h e in flexible_not_rigid f c.front c.fun k
-flexible_not_rigid (Const c T) h e k = absurd (cc)
-flexible_not_rigid (Free x T) h e k = absurd (cc)
-flexible_not_rigid (Bound n) h e k = absurd (cc)
-flexible_not_rigid (Abs x T b) h e k = absurd (cc)
+pub placed : (p : Tm) (s : Instance) (A B : Ty) → (IsStiff s p → ⊥) → Place p s A B → Fit s.types A B
+placed p s A B n (inl h) = absurd (n h)
+placed p s A B n (inr f) = f
 
-pub placed : (p : Tm) (es : List TypeEntry) (A B : Ty) → (IsRigid p → ⊥) → Place p es A B → Fit es A B
-placed p es A B n (inl h) = absurd (n h)
-placed p es A B n (inr f) = f
+-- what matches an unknown that counts as a constant is this unknown
+fixed_matched : (D : List Binder) (s r : Instance) (x : List ℕ) (i : ℕ) (T : Ty) (t : Tm) → is_fixed s x i T ≡ true → matched D s (Unknown x i T) t ≡ Some r → bare t ≡ Unknown x i T
+fixed_matched D s r x i T t f h =
+    let u = fixed_is s x i T f in
+    go u.0 u.2 (is_closed 0 t) (ap (λ o. cond (is_closed 0 t) (bound_to o s (record { name = x; number = i; typ = T; args = [] }) t) None) (sym u.1) ∙ h)
+  where
+    same : (u : Tm) → bare u ≡ Unknown x i T → (b : Bool) → tm_eq u t ≡ b → cond b (Some s) None ≡ Some r → bare t ≡ Unknown x i T
+    same u e true k l = sym ((tm_decides u t).0 k) ∙ e
+    same u e false k l = absurd (cc)
+
+    go : (u : Tm) → bare u ≡ Unknown x i T → (c : Bool) → cond c (cond (tm_eq u t) (Some s) None) None ≡ Some r → bare t ≡ Unknown x i T
+    go u e true k = same u e (tm_eq u t) refl k
+    go u e false k = absurd (cc)
+
+unknown_placed : (D : List Binder) (s r : Instance) (G : List Ty) (x : List ℕ) (i : ℕ) (T A B : Ty) (t : Tm) → AllGood s.types s.terms → Typed G (Unknown x i T) A → Typed (types_of D) t B → Place (Unknown x i T) s A B → matched D s (Unknown x i T) t ≡ Some r → Fit s.types A B
+unknown_placed D s r G x i T A B t g d e (inl f) h = fixed_place s (types_of D) G x i T A B t g f d e (fixed_matched D s r x i T t f h)
+unknown_placed D s r G x i T A B t g d e (inr f) h = f
 
 unknown_sound : (x : List ℕ) (i : ℕ) (T : Ty) → Sound (Unknown x i T)
 unknown_sound x i T t G D A B s r pat n e f fits pl h =
-    flexible_sound (Unknown x i T) t (record { name = x; number = i; typ = T; args = [] }) G D A B s r refl n e f fits (placed (Unknown x i T) s.types A B (λ k. k) pl) h
+    flexible_sound (Unknown x i T) t (record { name = x; number = i; typ = T; args = [] }) G D A B s r refl n e f fits (unknown_placed D s r G x i T A B t pat.0 e f pl h) h
 
 -- ---- abstractions
 both_or : (a b : Bool) {c : Bool} → (a ≡ true → c ≡ true) → (b ≡ true → c ≡ true) → (a || b) ≡ true → c ≡ true
@@ -346,16 +425,16 @@ open_close K x S R t d v U e k = subst (λ V. Conv K (function_of S R) (Abs x V 
 pub opened_normal : (t : Tm) → IsHead t → IsNormal t → IsNormal (App (raise 1 0 t) (Bound 0))
 opened_normal t h n = (raise_head 1 0 t h, (raise_normal 1 0 t n, tt))
 
-abs_both : (x : List ℕ) (T : Ty) (b : Tm) → Sound b → (y : List ℕ) (U : Ty) (c : Tm) (G : List Ty) (D : List Binder) (s r : Instance) (A2 B2 : Ty) → IsPattern b → IsNormal c → Typed (T ∷ G) b A2 → Typed (U ∷ types_of D) c B2 → Fits s.types G D → Fit s.types (function_of T A2) (function_of U B2) → matched (record { name = x; typ = U } ∷ D) s b c ≡ Some r → Finds D s (Abs x T b) (Abs y U c) (function_of T A2) (function_of U B2) r
+abs_both : (x : List ℕ) (T : Ty) (b : Tm) → Sound b → (y : List ℕ) (U : Ty) (c : Tm) (G : List Ty) (D : List Binder) (s r : Instance) (A2 B2 : Ty) → Asked s b → IsNormal c → Typed (T ∷ G) b A2 → Typed (U ∷ types_of D) c B2 → Fits s.types G D → Fit s.types (function_of T A2) (function_of U B2) → matched (record { name = x; typ = U } ∷ D) s b c ≡ Some r → Finds D s (Abs x T b) (Abs y U c) (function_of T A2) (function_of U B2) r
 abs_both x T b ih y U c G D s r A2 B2 pat n e f fits a h =
     abs_finds D s x T U B2 A2 b (Abs y U c) c r a (ih c (T ∷ G) (record { name = x; typ = U } ∷ D) A2 B2 s r pat n e f (fit_domain a, fits) (inr (fit_range a)) h) (both_close (types_of D) x y U B2 c f)
 
-abs_open : (x : List ℕ) (T : Ty) (b : Tm) → Sound b → (t : Tm) (G : List Ty) (D : List Binder) (s r : Instance) (A2 S R : Ty) → IsPattern b → IsHead t → IsNormal t → Typed (T ∷ G) b A2 → Typed (types_of D) t (function_of S R) → Fits s.types G D → Fit s.types (function_of T A2) (function_of S R) → matched (record { name = x; typ = S } ∷ D) s b (App (raise 1 0 t) (Bound 0)) ≡ Some r → Finds D s (Abs x T b) t (function_of T A2) (function_of S R) r
+abs_open : (x : List ℕ) (T : Ty) (b : Tm) → Sound b → (t : Tm) (G : List Ty) (D : List Binder) (s r : Instance) (A2 S R : Ty) → Asked s b → IsHead t → IsNormal t → Typed (T ∷ G) b A2 → Typed (types_of D) t (function_of S R) → Fits s.types G D → Fit s.types (function_of T A2) (function_of S R) → matched (record { name = x; typ = S } ∷ D) s b (App (raise 1 0 t) (Bound 0)) ≡ Some r → Finds D s (Abs x T b) t (function_of T A2) (function_of S R) r
 abs_open x T b ih t G D s r A2 S R pat hd n e f fits a h =
     abs_finds D s x T S R A2 b t (App (raise 1 0 t) (Bound 0)) r a
     (ih (App (raise 1 0 t) (Bound 0)) (T ∷ G) (record { name = x; typ = S } ∷ D) A2 R s r pat (opened_normal t hd n) e (TApp (next_typed S f) (TBound refl)) (fit_domain a, fits) (inr (fit_range a)) h) (open_close (types_of D) x S R t f)
 
-abs_opened : (x : List ℕ) (T : Ty) (b : Tm) → Sound b → (t : Tm) (G : List Ty) (D : List Binder) (A B : Ty) (s r : Instance) → IsPattern b → IsHead t → IsNormal t → Typed G (Abs x T b) A → Typed (types_of D) t B → Fits s.types G D → Fit s.types A B → matched (record { name = x; typ = inst_ty s.types T } ∷ D) s b (App (raise 1 0 t) (Bound 0)) ≡ Some r → Finds D s (Abs x T b) t A B r
+abs_opened : (x : List ℕ) (T : Ty) (b : Tm) → Sound b → (t : Tm) (G : List Ty) (D : List Binder) (A B : Ty) (s r : Instance) → Asked s b → IsHead t → IsNormal t → Typed G (Abs x T b) A → Typed (types_of D) t B → Fits s.types G D → Fit s.types A B → matched (record { name = x; typ = inst_ty s.types T } ∷ D) s b (App (raise 1 0 t) (Bound 0)) ≡ Some r → Finds D s (Abs x T b) t A B r
 abs_opened x T b ih t G D A B s r pat hd n e f fits a h =
     let p = abs_typed e in
     let A2 = p.0 in
@@ -370,14 +449,14 @@ abs_sound : (x : List ℕ) (T : Ty) (b : Tm) → Sound b → Sound (Abs x T b)
 abs_sound x T b ih (Abs y U c) G D A B s r pat n e f fits pl h =
     let p = abs_typed e in
     let q = abs_typed f in
-    let a : Fit s.types A B = placed (Abs x T b) s.types A B (λ k. k) pl in
+    let a : Fit s.types A B = placed (Abs x T b) s A B (λ k. k) pl in
     retyped D s (Abs x T b) (Abs y U c) (function_of T p.0) (function_of U q.0) A B r (sym p.1) (sym q.1)
     (abs_both x T b ih y U c G D s r p.0 q.0 pat n.0 p.2 q.2 fits (subst (λ V. Fit s.types V (function_of U q.0)) p.1 (subst (Fit s.types A) q.1 a)) h)
-abs_sound x T b ih (Const d U) G D A B s r pat n e f fits pl h = abs_opened x T b ih (Const d U) G D A B s r pat tt n e f fits (placed (Abs x T b) s.types A B (λ k. k) pl) h
-abs_sound x T b ih (Free d U) G D A B s r pat n e f fits pl h = abs_opened x T b ih (Free d U) G D A B s r pat tt n e f fits (placed (Abs x T b) s.types A B (λ k. k) pl) h
-abs_sound x T b ih (Unknown d i U) G D A B s r pat n e f fits pl h = abs_opened x T b ih (Unknown d i U) G D A B s r pat tt n e f fits (placed (Abs x T b) s.types A B (λ k. k) pl) h
-abs_sound x T b ih (Bound k) G D A B s r pat n e f fits pl h = abs_opened x T b ih (Bound k) G D A B s r pat tt n e f fits (placed (Abs x T b) s.types A B (λ k. k) pl) h
-abs_sound x T b ih (App g c) G D A B s r pat n e f fits pl h = abs_opened x T b ih (App g c) G D A B s r pat tt n e f fits (placed (Abs x T b) s.types A B (λ k. k) pl) h
+abs_sound x T b ih (Const d U) G D A B s r pat n e f fits pl h = abs_opened x T b ih (Const d U) G D A B s r pat tt n e f fits (placed (Abs x T b) s A B (λ k. k) pl) h
+abs_sound x T b ih (Free d U) G D A B s r pat n e f fits pl h = abs_opened x T b ih (Free d U) G D A B s r pat tt n e f fits (placed (Abs x T b) s A B (λ k. k) pl) h
+abs_sound x T b ih (Unknown d i U) G D A B s r pat n e f fits pl h = abs_opened x T b ih (Unknown d i U) G D A B s r pat tt n e f fits (placed (Abs x T b) s A B (λ k. k) pl) h
+abs_sound x T b ih (Bound k) G D A B s r pat n e f fits pl h = abs_opened x T b ih (Bound k) G D A B s r pat tt n e f fits (placed (Abs x T b) s A B (λ k. k) pl) h
+abs_sound x T b ih (App g c) G D A B s r pat n e f fits pl h = abs_opened x T b ih (App g c) G D A B s r pat tt n e f fits (placed (Abs x T b) s A B (λ k. k) pl) h
 
 -- ---- applications
 app_finds : (D : List Binder) (s q r : Instance) (f a g c : Tm) (S A S2 B : Ty) → Finds D s f g (function_of S A) (function_of S2 B) q → Finds D q a c S S2 r → Finds D s (App f a) (App g c) A B r
@@ -397,16 +476,16 @@ app_finds D s q r f a g c S A S2 B h k = record {
     only b d u (inl p) = elim (u p) [ inl l ↦ inl l | inr l ↦ inr (or_left b d l) ]
     only b d u (inr l) = inr (or_right b d l)
 
-app_rigid : (f a : Tm) → Sound f → Sound a → (g c : Tm) (G : List Ty) (D : List Binder) (A B : Ty) (s r : Instance) → IsRigid f → IsPattern f → IsPattern a → IsNormal (App g c) → Typed G (App f a) A → Typed (types_of D) (App g c) B → Fits s.types G D → (o : Option Instance) → matched D s f g ≡ o → (o >>= λ q. matched D q a c) ≡ Some r → Finds D s (App f a) (App g c) A B r
+app_rigid : (f a : Tm) → Sound f → Sound a → (g c : Tm) (G : List Ty) (D : List Binder) (A B : Ty) (s r : Instance) → IsStiff s f → Asked s f → Asked s a → IsNormal (App g c) → Typed G (App f a) A → Typed (types_of D) (App g c) B → Fits s.types G D → (o : Option Instance) → matched D s f g ≡ o → (o >>= λ q. matched D q a c) ≡ Some r → Finds D s (App f a) (App g c) A B r
 app_rigid f a ihf iha g c G D A B s r rig pf pa n d e fits None h k = absurd (cc)
 app_rigid f a ihf iha g c G D A B s r rig pf pa n d e fits (Some q) h k =
     let p = app_typed d in
     let p2 = app_typed e in
     let one = ihf g G D (function_of p.0 A) (function_of p2.0 B) s q pf n.1.0 p.1 p2.1 fits (inl rig) h in
-    let two = iha c G D p.0 p2.0 q r pa n.1.1 p.2 p2.2 (fits_more G D one.types_within fits) (inr (fit_domain one.fit)) k in
+    let two = iha c G D p.0 p2.0 q r (asked_more D s q f g a (function_of p.0 A) (function_of p2.0 B) one pa) n.1.1 p.2 p2.2 (fits_more G D one.types_within fits) (inr (fit_domain one.fit)) k in
     app_finds D s q r f a g c p.0 A p2.0 B one two
 
-app_case : (f a : Tm) → Sound f → Sound a → (t : Tm) (G : List Ty) (D : List Binder) (A B : Ty) (s r : Instance) → IsRigid f → IsPattern f → IsPattern a → IsNormal t → Typed G (App f a) A → Typed (types_of D) t B → Fits s.types G D → (app_parts t >>= λ q. (matched D s f q.0 >>= λ i. matched D i a q.1)) ≡ Some r → Finds D s (App f a) t A B r
+app_case : (f a : Tm) → Sound f → Sound a → (t : Tm) (G : List Ty) (D : List Binder) (A B : Ty) (s r : Instance) → IsStiff s f → Asked s f → Asked s a → IsNormal t → Typed G (App f a) A → Typed (types_of D) t B → Fits s.types G D → (app_parts t >>= λ q. (matched D s f q.0 >>= λ i. matched D i a q.1)) ≡ Some r → Finds D s (App f a) t A B r
 app_case f a ihf iha (App g c) G D A B s r rig pf pa n d e fits k = app_rigid f a ihf iha g c G D A B s r rig pf pa n d e fits (matched D s f g) refl k
 app_case f a ihf iha (Const y U) G D A B s r rig pf pa n d e fits k = absurd (cc)
 app_case f a ihf iha (Free y U) G D A B s r rig pf pa n d e fits k = absurd (cc)
@@ -414,14 +493,22 @@ app_case f a ihf iha (Unknown y i U) G D A B s r rig pf pa n d e fits k = absurd
 app_case f a ihf iha (Bound y) G D A B s r rig pf pa n d e fits k = absurd (cc)
 app_case f a ihf iha (Abs y U b) G D A B s r rig pf pa n d e fits k = absurd (cc)
 
-app_either : (f a : Tm) → Sound f → Sound a → (t : Tm) (G : List Ty) (D : List Binder) (A B : Ty) (s r : Instance) → (o : Option Flexible) → flexible (App f a) ≡ o → elim o as (λ _. Type 0) [ Some h ↦ are_distinct h.args ≡ true | None ↦ IsRigid f × (IsPattern f × IsPattern a) ] → IsNormal t → Typed G (App f a) A → Typed (types_of D) t B → Fits s.types G D → Place (App f a) s.types A B
+-- the parts of an application that isn't to be solved
+pub app_asked : (s : Instance) (f a : Tm) → to_solve s (App f a) ≡ None → Asked s (App f a) → IsStiff s f × (Asked s f × Asked s a)
+app_asked s f a e (g, inl h) = let p = spread_parts s f a h (fixed_flexible s (flexible (App f a)) h.head h.is e) in (p.0, ((g, p.1.0), (g, p.1.1)))
+app_asked s f a e (g, inr p) = (p.0, ((g, p.1.0), (g, p.1.1)))
+
+app_either : (f a : Tm) → Sound f → Sound a → (t : Tm) (G : List Ty) (D : List Binder) (A B : Ty) (s r : Instance) → (o : Option Flexible) → to_solve s (App f a) ≡ o → Asked s (App f a) → IsNormal t → Typed G (App f a) A → Typed (types_of D) t B → Fits s.types G D → Place (App f a) s A B
     → elim o as (λ _. Option Instance) [ Some h ↦ solved D s h t | None ↦ (app_parts t >>= λ q. (matched D s f q.0 >>= λ i. matched D i a q.1)) ] ≡ Some r → Finds D s (App f a) t A B r
 app_either f a ihf iha t G D A B s r (Some h) e pat n d g fits pl k =
-    flexible_sound (App f a) t h G D A B s r e n d g fits (placed (App f a) s.types A B (λ rig. flexible_not_rigid (App f a) h e rig) pl) k
-app_either f a ihf iha t G D A B s r None e pat n d g fits pl k = app_case f a ihf iha t G D A B s r pat.0 pat.1.0 pat.1.1 n d g fits k
+    let is = solve_flexible s (flexible (App f a)) h e in
+    flexible_sound (App f a) t h G D A B s r is.0 n d g fits (placed (App f a) s A B (λ st. flexible_not_stiff s (App f a) h is.0 is.1 st) pl) k
+app_either f a ihf iha t G D A B s r None e pat n d g fits pl k =
+    let p = app_asked s f a e pat in
+    app_case f a ihf iha t G D A B s r p.0 p.1.0 p.1.1 n d g fits k
 
 app_sound : (f a : Tm) → Sound f → Sound a → Sound (App f a)
-app_sound f a ihf iha t G D A B s r pat n d g fits pl k = app_either f a ihf iha t G D A B s r (flexible (App f a)) refl pat n d g fits pl k
+app_sound f a ihf iha t G D A B s r pat n d g fits pl k = app_either f a ihf iha t G D A B s r (to_solve s (App f a)) refl pat n d g fits pl k
 
 -- The matcher finds only matches.
 pub sound : (p : Tm) → Sound p

@@ -10,13 +10,13 @@ use Rattle.isa_terms.specs.declared.inst.TypeEntry.{TypeEntry}
 use Rattle.isa_terms.specs.declared.inst.TermEntry.{TermEntry}
 use Rattle.isa_terms.proofs.NormalForms.{norm_same}
 use Rattle.isa_unify.specs.TypeUnification.{ty_has, tys_have}
-use Rattle.isa_unify.specs.Matching.{have_unknown, have_type_unknown, all_from, AreAsked, AreSettled, IsSettled, AreMatchedFrom, AllMatchFrom, DoesAs}
+use Rattle.isa_unify.specs.Matching.{have_unknown, have_type_unknown, all_from, AreAskedFrom, AreSettled, IsSettled, AreMatchedFrom, AllMatchFrom, DoesAs}
 use Rattle.isa_unify.proofs.Tests.{or_left, or_right, either_true, same_test, some_same, value_of, key_self}
 use Rattle.isa_unify.proofs.TypeMatches.{TypesWithin, types_within_self, covers_more, Fit}
 use Rattle.isa_unify.proofs.PatternMatches.{terms_within_self, terms_cover_more, Good, AllGood, good_kept, good_normal}
 use Rattle.isa_unify.proofs.PatternComplete.{Agrees}
 use Rattle.isa_unify.proofs.MatchAnswers.{none_of}
-use Rattle.isa_unify.proofs.AllMatches.{Adds, adds, all_agree}
+use Rattle.isa_unify.proofs.AllMatches.{Adds, shown_from, adds, all_agree}
 
 -- ---- a type whose type unknowns have types
 mutual
@@ -66,14 +66,14 @@ start_agrees s ps ts r g m = record {
   terms = λ x i T u e. (u, m.terms_stay x i T u e, ap bare (norm_same u (good_normal s.types s.terms x i T u g e)));
 }
 
-matched_agrees : (s : Instance) (ps ts : List Tm) (r : Instance) → IsSettled s → AreAsked ps ts → AreMatchedFrom s ps ts r → (q : Instance) × (all_from s ps ts ≡ Some q) × Agrees q r
+matched_agrees : (s : Instance) (ps ts : List Tm) (r : Instance) → IsSettled s → AreAskedFrom s ps ts → AreMatchedFrom s ps ts r → (q : Instance) × (all_from s ps ts ≡ Some q) × Agrees q r
 matched_agrees s ps ts r h k m =
-    all_agree ps ts s r k
+    all_agree ps ts s r (settled_good s.types s.terms h) (shown_from s ps ts k)
     (λ x i e. m.types x i ∙ or_right (is_some (find_type x i s.types)) (have_type_unknown x i ps) e)
     (λ x i T e. m.terms x i T ∙ or_right (is_some (find_term x i T s.terms)) (have_unknown x i T ps) e)
     m.kept (start_agrees s ps ts r (settled_good s.types s.terms h) m) m.gives
 
-pub none_from : (s : Instance) (ps ts : List Tm) → all_from s ps ts ≡ None → IsSettled s → AreAsked ps ts → (r : Instance) → AreMatchedFrom s ps ts r → ⊥
+pub none_from : (s : Instance) (ps ts : List Tm) → all_from s ps ts ≡ None → IsSettled s → AreAskedFrom s ps ts → (r : Instance) → AreMatchedFrom s ps ts r → ⊥
 none_from s ps ts e h k r m =
     let a = matched_agrees s ps ts r h k m in
     let c : None ≡ Some a.0 = sym e ∙ a.1 in
@@ -93,10 +93,10 @@ do_as s ps ts r q m n a = record {
     at_term x i T (Some u) e = let v = a.terms x i T u e in ap (option_map (λ u. bare (norm u))) v.1 ∙ ap Some v.2
     at_term x i T None e = ap (option_map (λ u. bare (norm u))) (none_of (find_term x i T q.terms) (n.terms x i T ∙ sym (m.terms x i T) ∙ ap is_some e))
 
-pub found_from : (s : Instance) (ps ts : List Tm) (r : Instance) → all_from s ps ts ≡ Some r → IsSettled s → AreAsked ps ts → AllMatchFrom s ps ts r
+pub found_from : (s : Instance) (ps ts : List Tm) (r : Instance) → all_from s ps ts ≡ Some r → IsSettled s → AreAskedFrom s ps ts → AllMatchFrom s ps ts r
 found_from s ps ts r e h k =
     let g = settled_good s.types s.terms h in
-    let a = adds ps ts s r k e in
+    let a = adds ps ts s r g (shown_from s ps ts k) e in
     let m = are_matched s ps ts r g a in
     record {
       are = m;
@@ -104,9 +104,9 @@ found_from s ps ts r e h k =
       only = λ q n. let b = matched_agrees s ps ts q h k n in do_as s ps ts r q m n (subst (λ z. Agrees z q) (some_same (sym b.1 ∙ e)) b.2);
     }
 
-pub found_answer : {E : Type 0} (s : Instance) (ps ts : List Tm) (r : Result (Option Instance) E) → IfOk r (λ found. found ≡ all_from s ps ts) → IfOk r (λ found. IfSome found (λ inst. IsSettled s → AreAsked ps ts → AllMatchFrom s ps ts inst))
-found_answer s ps ts r h = IfOk-weaker r (λ found. found ≡ all_from s ps ts) (λ found. IfSome found (λ inst. IsSettled s → AreAsked ps ts → AllMatchFrom s ps ts inst)) one h
+pub found_answer : {E : Type 0} (s : Instance) (ps ts : List Tm) (r : Result (Option Instance) E) → IfOk r (λ found. found ≡ all_from s ps ts) → IfOk r (λ found. IfSome found (λ inst. IsSettled s → AreAskedFrom s ps ts → AllMatchFrom s ps ts inst))
+found_answer s ps ts r h = IfOk-weaker r (λ found. found ≡ all_from s ps ts) (λ found. IfSome found (λ inst. IsSettled s → AreAskedFrom s ps ts → AllMatchFrom s ps ts inst)) one h
   where
-    one : (found : Option Instance) → found ≡ all_from s ps ts → IfSome found (λ inst. IsSettled s → AreAsked ps ts → AllMatchFrom s ps ts inst)
+    one : (found : Option Instance) → found ≡ all_from s ps ts → IfSome found (λ inst. IsSettled s → AreAskedFrom s ps ts → AllMatchFrom s ps ts inst)
     one None e = tt
     one (Some r) e = found_from s ps ts r (sym e)

@@ -32,13 +32,14 @@ use Rattle.isa_unify.proofs.Measure.{occurs}
 use Rattle.isa_unify.proofs.Assigned.{fine_stands}
 use Rattle.isa_unify.proofs.Meaning.{Holds, EachHolds, types_under}
 use Rattle.isa_unify.proofs.Changing.{Sig, KnownKey, value, Ready}
-use Rattle.isa_unify.proofs.Outcomes.{Outcome}
+use Rattle.isa_unify.proofs.Outcomes.{Outcome, entries_nothing}
 use Rattle.isa_unify.proofs.Deciding.{unknown}
 use Rattle.isa_unify.proofs.Verdicts.{fine_within, PrunePlace, VerdictTyped, verdict_typed, VerdictHolds, verdict_holds}
 use Rattle.isa_unify.proofs.AbstractedTerms.{names, typs, bounds_known, unknown_type, hit}
 use Rattle.isa_unify.proofs.Solving.{Front, solving_assignment, solving_outcome, known_inst}
 use Rattle.isa_unify.proofs.Renewing.{Place, Fresh, Renewed, over_is, renewing_assignment, pruning_outcome, with_sig, Twice, pair_types, same_place, same_within, same_outcome, agreeing_all}
 use Rattle.isa_unify.proofs.Pairing.{Two, two_place, both_terms, two_assignment, two_outcome}
+use Rattle.isa_unify.proofs.TypeInstances.{inst_nothing}
 use Rattle.isa_unify.proofs.Leading.{Hopeless, Leads, assigned_leads}
 
 -- what a step says of the state
@@ -92,7 +93,7 @@ module _ (sig : Sig) (st : State) (e : Equation) (ready : Ready sig (with_first 
       let within : IsWithin xs t = λ j. at j (fine_within u.name u.number xs t 0 e.binders p j) in
       let without = fine_stands u xs 0 e.binders t p in
       let s = hit u (abstracted e.binders xs t) in
-      assigned_leads sig (with_first e st) ready sig (filled_state s st) s (solving_assignment sig st e ready u xs t front within without) st.equations refl refl ready.typed.1 (rest_known sig st e ready) (λ r v h. h.1) (λ ts fs o. solving_outcome sig st e ready u xs t front within without ts fs o)
+      assigned_leads sig (with_first e st) ready sig (filled_state s st) s (solving_assignment sig st e ready u xs t front within without) st.equations refl refl refl ready.typed.1 (rest_known sig st e ready) (λ r v h. h.1) (λ ts fs o. solving_outcome sig st e ready u xs t front within without ts fs o)
     where
       at : (j : ℕ) → Among j xs ⊎ (loose (j + 0) t ≡ false) → Among j xs ⊎ (loose j t ≡ false)
       at j (inl g) = inl g
@@ -112,7 +113,7 @@ module _ (sig : Sig) (st : State) (e : Equation) (ready : Ready sig (with_first 
       let sig' = with_sig x n (Fresh bs w ys kept place n).typ sig in
       let new = filled_state s (after_new whole) in
       let a = renewing_assignment sig whole bs w ys kept place new refl within in
-      let leads : Leads sig whole new = assigned_leads sig whole ready sig' new s a whole.equations refl refl ready.typed ready.known (λ r v h. h) (λ ts fs o. pruning_outcome sig whole ready bs w ys kept place within ts fs o) in
+      let leads : Leads sig whole new = assigned_leads sig whole ready sig' new s a whole.equations refl refl refl ready.typed ready.known (λ r v h. h) (λ ts fs o. pruning_outcome sig whole ready bs w ys kept place within ts fs o) in
       let is : abstracted bs ys (over bs x n kept (range_behind ys T)) ≡ Renewed bs w ys kept place n = ap (abstracted bs ys) (over_is bs w ys kept place n) in
       subst (λ A. Leads sig whole (filled_state (becomes x i T A ∷ []) (with_first e (after_new st)))) (sym is) leads
 
@@ -137,6 +138,9 @@ module _ (sig : Sig) (st : State) (e : Equation) (ready : Ready sig (with_first 
   dropped : e.left ≡ e.right → Leads sig (with_first e st) st
   dropped q = record {
     new_sig = sig;
+    by = [];
+    by_sig = λ x i h. sym (inst_nothing (sig x i));
+    by_types = entries_nothing st.types;
     ready = record { typed = ready.typed.1; normal = ready.normal.1; known = rest_known sig st e ready; terms_typed = ready.terms_typed; terms_known = ready.terms_known };
     outcome = λ ts fs o. record {
       by_types = o.by_types;
@@ -166,7 +170,7 @@ module _ (sig : Sig) (st : State) (e : Equation) (ready : Ready sig (with_first 
           let s = hit u (Renewed e.binders u xs (agreeing xs ys) place st.next) in
           let new = filled_state s (after_new st) in
           let a = renewing_assignment sig (with_first e st) e.binders u xs (agreeing xs ys) place new refl (λ r v f h. same_within sig st e ready u xs ys t r v f h.0) in
-          let l : Leads sig (with_first e st) new = assigned_leads sig (with_first e st) ready (with_sig u.name st.next (Fresh e.binders u xs (agreeing xs ys) place st.next).typ sig) new s a st.equations refl refl ready.typed.1 (rest_known sig st e ready) (λ r v h. h.1) (λ ts fs o. same_outcome sig st e ready u xs ys t ts fs o) in
+          let l : Leads sig (with_first e st) new = assigned_leads sig (with_first e st) ready (with_sig u.name st.next (Fresh e.binders u xs (agreeing xs ys) place st.next).typ sig) new s a st.equations refl refl refl ready.typed.1 (rest_known sig st e ready) (λ r v h. h.1) (λ ts fs o. same_outcome sig st e ready u xs ys t ts fs o) in
           let is : abstracted e.binders xs (over e.binders u.name st.next (agreeing xs ys) (range_behind xs u.typ)) ≡ Renewed e.binders u xs (agreeing xs ys) place st.next = ap (abstracted e.binders xs) (over_is e.binders u xs (agreeing xs ys) place st.next) in
           subst (λ A. Leads sig (with_first e st) (filled_state (becomes u.name u.number u.typ A ∷ []) (after_new st))) (sym is) l
 
@@ -194,7 +198,7 @@ module _ (sig : Sig) (st : State) (e : Equation) (ready : Ready sig (with_first 
           let s = both_terms sig st e ready u xs w ys t in
           let new = filled_state s (after_new st) in
           let a = two_assignment sig st e ready u xs w ys t in
-          let l : Leads sig (with_first e st) new = assigned_leads sig (with_first e st) ready (with_sig u.name st.next (Fresh e.binders u xs (filter (has_number ys) xs) place st.next).typ sig) new s a st.equations refl refl ready.typed.1 (rest_known sig st e ready) (λ r v h. h.1) (λ ts fs o. two_outcome sig st e ready u xs w ys t ts fs o) in
+          let l : Leads sig (with_first e st) new = assigned_leads sig (with_first e st) ready (with_sig u.name st.next (Fresh e.binders u xs (filter (has_number ys) xs) place st.next).typ sig) new s a st.equations refl refl refl ready.typed.1 (rest_known sig st e ready) (λ r v h. h.1) (λ ts fs o. two_outcome sig st e ready u xs w ys t ts fs o) in
           subst (λ h. Leads sig (with_first e st) (both_become (after_new st) e u.name u.number u.typ xs w.name w.number w.typ ys h)) (sym (over_is e.binders u xs (filter (has_number ys) xs) place st.next)) l
 
       taken : (b : Bool) → StepView sig (with_first e st) (cond b (Done Outside) (Solved (both_become (after_new st) e u.name u.number u.typ xs w.name w.number w.typ ys (over e.binders u.name st.next (filter (has_number ys) xs) (range_behind xs u.typ)))))

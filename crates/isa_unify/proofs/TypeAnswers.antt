@@ -4,7 +4,7 @@ use Rattle.isa_terms.specs.Types.{Ty, Tys, TyCon, TyFixed, TyUnknown, NoTys, Mor
 use Rattle.isa_terms.specs.Equal.{name_eq}
 use Rattle.isa_terms.specs.Instance.{Instance, find_type, inst_ty, inst_tys, set_type}
 use Rattle.isa_terms.specs.declared.inst.TypeEntry.{TypeEntry}
-use Rattle.isa_unify.specs.TypeUnification.{IsTypeUnifier, unify_typs}
+use Rattle.isa_unify.specs.TypeUnification.{IsTypeUnifier, IsMostGeneral, Unifies, unify_typs}
 use Rattle.isa_unify.specs.TypeStacks.{set_all}
 use Rattle.isa_unify.proofs.TypeMatches.{find_set}
 use Rattle.isa_unify.proofs.TypesUnify.{types_most_general, types_no_unifier}
@@ -46,3 +46,10 @@ no_type_unifier S T e r k = types_no_unifier ((S, T) ∷ []) e r (k, tt)
 pub instance_made : (s : Instance) (es fs : List TypeEntry) → length es ≡ 0 → s.terms ≡ [] → set_all s.types es ≡ set_all [] fs → s ≡ record { types = set_all [] fs; terms = [] }
 instance_made s [] fs l t e = λ i. record { types = e i; terms = t i }
 instance_made s (x ∷ es) fs l t e = absurd (omega arith)
+
+-- lists of equations
+pub pairs_unifier : (es : List (Ty × Ty)) (q : List TypeEntry) → unify_typs es ≡ Some q → IsMostGeneral es q
+pairs_unifier es q e = types_most_general es q e
+
+pub no_pairs_unifier : (es : List (Ty × Ty)) → unify_typs es ≡ None → (r : List TypeEntry) → Unifies r es → ⊥
+no_pairs_unifier es e r k = types_no_unifier es e r k

@@ -10,7 +10,7 @@ use Rattle.isa_unify.specs.declared.unification.TermPair.{TermPair}
 use Rattle.isa_unify.specs.declared.unification.Unified.{Unified}
 use Rattle.isa_unify.specs.declared.unification.Unified.TheVariants.{Yes, No, Outside}
 use Rattle.isa_unify.specs.declared.progress.Answer.{Answer}
-use Rattle.isa_unify.specs.UnifyLaw.{IsMostGeneralFor, HaveNone}
+use Rattle.isa_unify.specs.UnifyLaw.{IsMostGeneralFor, HaveNone, GoesOn}
 use Rattle.isa_unify.specs.declared.progress.Answer.TheVariants as answer
 use Rattle.isa_terms.specs.Entries.{Once}
 use Rattle.isa_terms.specs.Instance.{same_type_unknown, same_unknown}
@@ -66,3 +66,10 @@ IsRight (Ok (Yes s)) es = IsMostGeneralFor es s
 IsRight (Ok No) es = HaveNone es
 IsRight (Ok Outside) es = Unit {0}
 IsRight (Err memory) es = Unit {0}
+
+-- At Yes another unification may follow, with new unknowns numbered from new on.
+abbrev pub MayFollow : Result Unified AllocError → (List ℕ → ℕ → Ty) → ℕ → ℕ → List Equation → Type 0
+MayFollow (Ok (Yes s)) typ old new es = GoesOn typ old new es s
+MayFollow (Ok No) typ old new es = Unit {0}
+MayFollow (Ok Outside) typ old new es = Unit {0}
+MayFollow (Err memory) typ old new es = Unit {0}

@@ -17,3 +17,4 @@ pub mod Worked
 pub mod UnificationRows
 pub mod Laws
 pub mod UnifyLaw
+pub mod Constants

@@ -1,5 +1,5 @@
 -- Matches of patterns (Miller; Nipkow): each unknown of a pattern is applied to distinct bound variables only.
-use Rattle.std.specs.Prelude.{◌≡◌, ℕ, ◌+◌, nat_eq, nat_lt, Bool, true, false, ◌&&◌, ◌||◌, List, [], ◌∷◌, ◌++◌, slice_get, Option, Some, None, is_some, option_map, Ok, Err, if◌then◌else◌}
+use Rattle.std.specs.Prelude.{◌≡◌, ℕ, ◌+◌, nat_eq, nat_lt, Bool, true, false, not, ◌&&◌, ◌||◌, List, [], ◌∷◌, ◌++◌, slice_get, Option, Some, None, is_some, option_map, Ok, Err, if◌then◌else◌}
 use Rattle.isa_terms.specs.Types.{Ty, Tys, TyCon, TyFixed, TyUnknown, NoTys, MoreTys}
 use Rattle.isa_terms.specs.Terms.{Tm, Const, Free, Unknown, Bound, Abs, App, bare}
 use Rattle.isa_terms.specs.Equal.{name_eq, ty_eq, tm_eq}
@@ -7,7 +7,8 @@ use Rattle.isa_terms.specs.Typing.{type_at, HasType}
 use Rattle.isa_terms.specs.Replace.{raise}
 use Rattle.isa_terms.specs.Norm.{eta, norm}
 use Rattle.isa_terms.specs.Normal.{IsNormal}
-use Rattle.isa_terms.specs.Pattern.{is_pattern}
+use Rattle.isa_terms.specs.Pattern.{is_pattern, distinct_args}
+use Rattle.isa_terms.specs.Order.{head_of}
 use Rattle.isa_terms.specs.Instance.{Instance, find_type, find_term, inst_ty, instance_of, set_type, set_term}
 use Rattle.isa_terms.specs.Instances.{IsKept}
 use Rattle.isa_terms.specs.declared.inst.TypeEntry.{TypeEntry}
@@ -162,6 +163,49 @@ flexible (Unknown x i T) = Some (record { name = x; number = i; typ = T; args = 
 flexible (App f a) = applied (flexible f) a
 flexible t = None
 
+abbrev pub is_that : Option Tm → Tm → Bool
+is_that None t = false
+is_that (Some u) t = tm_eq u t
+
+-- whether the unknown counts as a constant: s maps it to itself
+abbrev pub is_fixed : Instance → List ℕ → ℕ → Ty → Bool
+is_fixed s x i T = is_that (find_term x i T s.terms) (Unknown x i T)
+
+abbrev pub unless_fixed : Instance → Option Flexible → Option Flexible
+unless_fixed s None = None
+unless_fixed s (Some h) = if is_fixed s h.name h.number h.typ then None else Some h
+
+-- the term as an unknown that is to be solved, applied to bound variables, where it is one; with arguments it doesn't count as a constant
+abbrev pub to_solve : Instance → Tm → Option Flexible
+to_solve s (App f a) = unless_fixed s (flexible (App f a))
+to_solve s t = flexible t
+
+-- whether the term is an unknown that doesn't count as a constant
+abbrev pub is_open : Instance → Tm → Bool
+is_open s (Unknown x i T) = not (is_fixed s x i T)
+is_open s t = false
+
+-- whether each unknown, but for those that count as constants, is applied to distinct bound variables only
+abbrev pub is_pattern_from : Instance → Tm → Bool
+is_pattern_from s (App f a) = if is_open s (head_of f) then distinct_args (App f a) else (is_pattern_from s f && is_pattern_from s a)
+is_pattern_from s (Abs x T b) = is_pattern_from s b
+is_pattern_from s _ = true
+
+-- what matching asks where it goes on from s: as from nothing, but that an unknown that counts as a constant may be applied to any terms
+pub record IsAskedFrom (s : Instance) (p t : Tm) : Type 0 where
+  pub pattern : is_pattern_from s p ≡ true
+  pub pattern_type : Ty
+  pub pattern_typed : HasType p pattern_type
+  pub pattern_normal : IsNormal p
+  pub term_type : Ty
+  pub term_typed : HasType t term_type
+  pub normal : IsNormal t
+
+abbrev pub AreAskedFrom : Instance → List Tm → List Tm → Type 0
+AreAskedFrom s [] [] = Unit {0}
+AreAskedFrom s (p ∷ ps) (t ∷ ts) = IsAskedFrom s p t × AreAskedFrom s ps ts
+AreAskedFrom s _ _ = Unit {0}
+
 -- the body of `%x. t`, x being the variable n of the binders round t; here under k more binders
 abbrev pub over : ℕ → ℕ → Tm → Tm
 over n k (Const c T) = Const c T
@@ -221,7 +265,7 @@ matched G s (Bound m) (Bound n) = if nat_eq m n then Some s else None
 matched G s (Unknown x i T) t = solved G s (record { name = x; number = i; typ = T; args = [] }) t
 matched G s (Abs x T b) (Abs y U c) = matched (record { name = x; typ = U } ∷ G) s b c
 matched G s (Abs x T b) t = matched (record { name = x; typ = inst_ty s.types T } ∷ G) s b (App (raise 1 0 t) (Bound 0))
-matched G s (App f a) t = elim (flexible (App f a)) [
+matched G s (App f a) t = elim (to_solve s (App f a)) [
   | Some h ↦ solved G s h t
   | None ↦ do
     q ← app_parts t

@@ -8,7 +8,7 @@ ghost use Rattle.isa_unify.specs.Unification.{parts_at, clash_step_at, clash_ste
 use crate::equation::{Equation, Equations};
 use crate::parts::parts_at;
 use crate::progress::{Parts, Walk};
-use crate::types::{TypePair, unify_type_pairs};
+use crate::types::{TypePair, unified_pairs};
 use isa_terms::{Typ, TypeEntry};
 use std::alloc::{AllocError, Global};
 
@@ -22,7 +22,7 @@ pub fn unified_types(
 {
     let mut work = Vec::new(alloc);
     work.push(TypePair { left, right })?;
-    unify_type_pairs(alloc, work)
+    unified_pairs(alloc, work)
 }
 
 /// The walk over an equation before the others.

@@ -1,7 +1,7 @@
 //! Laws of the definitions.
 
 ghost use Rattle.isa_unify.specs.Laws.{UnificationEnds, ClashesEnd};
-ghost use Rattle.isa_unify.specs.UnifyLaw.{NoIsRight, YesIsRight};
+ghost use Rattle.isa_unify.specs.UnifyLaw.{NoIsRight, YesIsRight, YesGoesOn};
 ghost use Rattle.isa_unify.specs.Clashes.{ClashesAreFound, ClashHasNoMatch, LiftedIsLifting, LiftingsClash};
 
 /// The steps of unification end, and the walk that looks for clashes does; no bound in their
@@ -43,4 +43,11 @@ pub fn clash_has_no_match()
 pub fn liftings_clash()
     ensures lifted { LiftedIsLifting }
     ensures clash { LiftingsClash }
+{}
+
+/// Where unification answers Yes, each unknown of its instance is one of the equations, at the
+/// instance of its type, or has one of the numbers that were taken, of which there are at most
+/// 1,000,000: another unification may follow.
+pub fn yes_goes_on()
+    ensures { YesGoesOn }
 {}

@@ -5,6 +5,7 @@ mod abstractions;
 mod asking;
 mod binders;
 mod clashing;
+mod constants;
 mod equation;
 mod filling;
 mod fresh;
@@ -20,10 +21,11 @@ mod steps;
 mod types;
 mod unification;
 
+pub use constants::constants_of;
 pub use fresh::Fresh;
 pub use laws::{
     clash_has_no_match, clashes_are_found, liftings_clash, no_is_right, unification_ends,
-    yes_is_right,
+    yes_goes_on, yes_is_right,
 };
 pub use matching::{match_pattern, match_patterns, match_patterns_from};
 pub use types::{TypePair, unify_type_pairs, unify_types};

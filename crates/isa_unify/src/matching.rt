@@ -5,7 +5,7 @@ ghost use Rattle.isa_terms.specs.Types.{tys_of};
 ghost use Rattle.isa_terms.specs.Instance.{Instance, find_term};
 ghost use Rattle.isa_terms.specs.Terms.{App, Bound};
 ghost use Rattle.isa_terms.specs.Replace.{raise};
-ghost use Rattle.isa_unify.specs.Matching.{ty_matched, tys_matched, flexible, bound_to, solved, typed, matched, closed_type, match_from, match_of, all_from, match_all_of, IsAsked, IsMatch, IsTheMatch, AreAsked, AreMatched, AllMatch, IsSettled, AreMatchedFrom, AllMatchFrom};
+ghost use Rattle.isa_unify.specs.Matching.{ty_matched, tys_matched, flexible, is_fixed, to_solve, bound_to, solved, typed, matched, closed_type, match_from, match_of, all_from, match_all_of, IsAsked, IsMatch, IsTheMatch, AreAsked, AreMatched, AllMatch, IsSettled, AreAskedFrom, AreMatchedFrom, AllMatchFrom};
 ghost use Rattle.isa_unify.specs.BinderLists.{binders_in, flexible_of};
 
 use crate::binders::{Binders, is_closed, solution};
@@ -88,6 +88,41 @@ fn flexible<'a>(alloc: Global, t: &'a Term) -> Result<Option<Spine<'a>>, AllocEr
     }
 }
 
+/// Whether the unknown counts as a constant, since the instance maps it to itself.
+fn is_fixed(inst: &Inst, spine: &Spine<'_>) -> bool
+    ensures { result ≡ is_fixed inst.now spine.now.name.now spine.now.number spine.now.typ.now }
+{
+    match find_term(spine.name, spine.number, spine.typ, inst.terms().as_slice()) {
+        None => false,
+        Some(found) => match found.view() {
+            TermNode::Unknown(name, number, typ) => {
+                name.same(spine.name) && *number == spine.number && same_typ(typ, spine.typ)
+            }
+            _ => false,
+        },
+    }
+}
+
+/// The term as an unknown that is to be solved, applied to bound variables, where it is one.
+fn to_solve<'a>(alloc: Global, inst: &Inst, t: &'a Term) -> Result<Option<Spine<'a>>, AllocError>
+    ensures { IfOk result (λ found. option_map flexible_of found ≡ to_solve inst.now t.now) }
+{
+    let spine = flexible(alloc, t)?;
+    match t.view() {
+        TermNode::App(_, _) => match spine {
+            None => Ok(None),
+            Some(spine) => {
+                if is_fixed(inst, &spine) {
+                    Ok(None)
+                } else {
+                    Ok(Some(spine))
+                }
+            }
+        },
+        _ => Ok(spine),
+    }
+}
+
 /// Adds the term for the unknown, unless another one stands for it.
 fn bind(alloc: Global, inst: &mut Inst, spine: &Spine<'_>, term: Term) -> Result<bool, AllocError>
     ensures { IfOk result (λ yes. bound_to (find_term spine.now.name.now spine.now.number spine.now.typ.now inst.old.terms) inst.old (flexible_of spine.now) term ≡ cond yes (Some inst.new) None) }
@@ -143,7 +178,7 @@ fn extend(
 ) -> Result<bool, AllocError>
     ensures { IfOk result (λ yes. matched (binders_in binders.now) inst.old pattern.now term.now ≡ cond yes (Some inst.new) None) }
 {
-    if let Some(spine) = flexible(alloc, pattern)? {
+    if let Some(spine) = to_solve(alloc, inst, pattern)? {
         return solve(alloc, binders, inst, &spine, term);
     }
     match (pattern.view(), term.view()) {
@@ -289,7 +324,7 @@ pub fn match_patterns(
 /// pattern equal to the term at its place, if there is one.
 ///
 /// Only what has no entry in `start` is instantiated. An unknown or type unknown that `start` maps to itself counts as a
-/// constant. As with `match_patterns`, the one such instance is found, where the terms of `start` are normal, have the
+/// constant, and may be applied to any terms. As with `match_patterns`, the one such instance is found, where the terms of `start` are normal, have the
 /// types of their unknowns, and `start` has the type unknowns of these types; so what was found can be gone on from.
 #[tactic(auto, using(crate::proofs::StartMatches::none_from))]
 pub fn match_patterns_from(
@@ -299,8 +334,8 @@ pub fn match_patterns_from(
     start: &Inst,
 ) -> Result<Option<Inst>, AllocError>
     ensures answer { IfOk result (λ found. found ≡ all_from start.now patterns.now terms.now) }
-    ensures found { IfOk result (λ found. IfSome found (λ inst. IsSettled start.now → AreAsked patterns.now terms.now → AllMatchFrom start.now patterns.now terms.now inst)) }
-    ensures none { IfOk result (λ found. IfNone found (IsSettled start.now → AreAsked patterns.now terms.now → (s : Instance) → AreMatchedFrom start.now patterns.now terms.now s → ⊥)) }
+    ensures found { IfOk result (λ found. IfSome found (λ inst. IsSettled start.now → AreAskedFrom start.now patterns.now terms.now → AllMatchFrom start.now patterns.now terms.now inst)) }
+    ensures none { IfOk result (λ found. IfNone found (IsSettled start.now → AreAskedFrom start.now patterns.now terms.now → (s : Instance) → AreMatchedFrom start.now patterns.now terms.now s → ⊥)) }
 {
     find_match_from(alloc, patterns, terms, start)
 }

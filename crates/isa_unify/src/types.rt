@@ -3,7 +3,7 @@
 ghost use Rattle.std.specs.Prelude.{◌≡◌, ◌∷◌, [], List, IfOk, IfSome, IfNone, option_map};
 ghost use Rattle.isa_terms.specs.Instance.{inst_ty};
 ghost use Rattle.isa_terms.specs.declared.inst.TypeEntry.{TypeEntry};
-ghost use Rattle.isa_unify.specs.TypeUnification.{IsTypeUnifier};
+ghost use Rattle.isa_unify.specs.TypeUnification.{IsTypeUnifier, IsMostGeneral, Unifies};
 ghost use Rattle.isa_unify.specs.TypeStacks.{set_all, resolved};
 ghost use Rattle.isa_terms.specs.Types.{tys_of};
 ghost use Rattle.isa_unify.specs.TypeUnification.{ty_has, tys_have, one, equations_under, paired, type_state, unify_typs};
@@ -177,7 +177,7 @@ fn resolve(alloc: Global, mut entries: Vec<TypeEntry>) -> Result<Vec<TypeEntry>,
 }
 
 /// A most general unifier of the pairs, taken from the last one to the first, if there is one.
-pub fn unify_type_pairs(
+pub fn unified_pairs(
     alloc: Global,
     mut work: Vec<TypePair>,
 ) -> Result<Option<Vec<TypeEntry>>, AllocError>
@@ -190,6 +190,19 @@ pub fn unify_type_pairs(
         }
     }
     Ok(Some(resolve(alloc, solution)?))
+}
+
+/// A most general unifier of the pairs, taken from the last one to the first; `None` where they have none.
+#[tactic(auto, using(crate::proofs::TypeAnswers::pairs_unifier, crate::proofs::TypeAnswers::no_pairs_unifier))]
+pub fn unify_type_pairs(
+    alloc: Global,
+    pairs: Vec<TypePair>,
+) -> Result<Option<Vec<TypeEntry>>, AllocError>
+    ensures answer { IfOk result (λ found. option_map (λ entries. entries.items) found ≡ unify_typs (stack_of pairs.items)) }
+    ensures found { IfOk result (λ found. IfSome found (λ entries. IsMostGeneral (stack_of pairs.items) entries.items)) }
+    ensures none { IfOk result (λ found. IfNone found ((r : List TypeEntry) → Unifies r (stack_of pairs.items) → ⊥)) }
+{
+    unified_pairs(alloc, pairs)
 }
 
 /// The entries as an instance without terms. Of two for one type unknown the first counts.
@@ -215,7 +228,7 @@ pub fn unify_types(alloc: Global, left: &Typ, right: &Typ) -> Result<Option<Inst
         left: left.copy()?,
         right: right.copy()?,
     })?;
-    match unify_type_pairs(alloc, work)? {
+    match unified_pairs(alloc, work)? {
         None => Ok(None),
         Some(entries) => Ok(Some(instance_of_types(alloc, entries)?)),
     }

@@ -4,7 +4,7 @@ ghost use Rattle.std.specs.Prelude.{◌≡◌, ℕ, List, [], IfOk};
 ghost use Rattle.isa_terms.specs.Types.{Ty};
 ghost use Rattle.isa_unify.specs.TypeStacks.{stack_of};
 ghost use Rattle.isa_unify.specs.Unification.{asked_types, asked_terms, all_types, start, unless_clash, answer_at, unify};
-ghost use Rattle.isa_unify.specs.Calls.{equation, equations_of, type_if_any, AreOnce, Answers, IsRight};
+ghost use Rattle.isa_unify.specs.Calls.{equation, equations_of, type_if_any, AreOnce, Answers, IsRight, MayFollow};
 ghost use Rattle.isa_unify.specs.UnifyLaw.{AreGiven};
 
 use crate::asking::{add_types, add_unknowns};
@@ -14,7 +14,7 @@ use crate::filling::retyped_state;
 use crate::fresh::Fresh;
 use crate::progress::{Answer, State};
 use crate::steps::unified;
-use crate::types::{TypePair, unify_type_pairs};
+use crate::types::{TypePair, unified_pairs};
 use isa_terms::{IllTyped, Inst, Term, TermEntries, Typ, TypeEntries, type_of};
 use std::alloc::{AllocError, Global};
 
@@ -137,7 +137,7 @@ fn unless_clash(alloc: Global, state: State) -> Result<Answer, AllocError>
 fn answer_of(alloc: Global, pairs: &[TermPair], next: u32) -> Result<Answer, AllocError>
     ensures { IfOk result (λ a. a ≡ unify (equations_of pairs.now) next) }
 {
-    match unify_type_pairs(alloc, type_pairs(alloc, pairs)?)? {
+    match unified_pairs(alloc, type_pairs(alloc, pairs)?)? {
         None => Ok(Answer::No),
         Some(types) => {
             let state = start(alloc, pairs, next)?;
@@ -148,7 +148,7 @@ fn answer_of(alloc: Global, pairs: &[TermPair], next: u32) -> Result<Answer, All
 
 /// The instance of those entries, each for another unknown.
 #[tactic(auto, using(crate::proofs::Entries::next_type, crate::proofs::Entries::next_term))]
-fn inst_of(alloc: Global, types: &TypeEntries, terms: &TermEntries) -> Result<Inst, AllocError>
+pub fn inst_of(alloc: Global, types: &TypeEntries, terms: &TermEntries) -> Result<Inst, AllocError>
     requires { AreOnce types.now terms.now }
     ensures { IfOk result (λ s. s ≡ record { types = types.now; terms = terms.now }) }
 {
@@ -211,6 +211,7 @@ pub fn unify_pairs(
 ) -> Result<Unified, AllocError>
     ensures answer { Answers result fresh.old fresh.new (unify (equations_of pairs.now) fresh.old) }
     ensures right { (typ : List ℕ → ℕ → Ty) → AreGiven typ fresh.old (equations_of pairs.now) → IsRight result (equations_of pairs.now) }
+    ensures follow { (typ : List ℕ → ℕ → Ty) → AreGiven typ fresh.old (equations_of pairs.now) → MayFollow result typ fresh.old fresh.new (equations_of pairs.now) }
 {
     answer_pairs(alloc, pairs, fresh)
 }
@@ -224,6 +225,7 @@ pub fn unify(
 ) -> Result<Unified, AllocError>
     ensures answer { Answers result fresh.old fresh.new (unify (equation left.now right.now) fresh.old) }
     ensures right { (typ : List ℕ → ℕ → Ty) → AreGiven typ fresh.old (equation left.now right.now) → IsRight result (equation left.now right.now) }
+    ensures follow { (typ : List ℕ → ℕ → Ty) → AreGiven typ fresh.old (equation left.now right.now) → MayFollow result typ fresh.old fresh.new (equation left.now right.now) }
 {
     answer_two(alloc, left, right, fresh)
 }

@@ -2,7 +2,7 @@ use Rattle.std.proofs.Common.{◌≡◌}
 use Rattle.isa_unify.specs.TypeUnification.{type_state, types_unified, unify_typs}
 use Rattle.isa_unify.specs.TypeStacks.{stack_of, resolved}
 use Rattle.isa_unify.proofs.TypesUnify.{steps_left}
-use Rattle.isa_unify.proofs.types.unify_type_pairs.Given as goal
+use Rattle.isa_unify.proofs.types.unified_pairs.Given as goal
 
 -- what is left ends as all does
 abbrev pub invariant-loop-pair : goal.invariant-loop-pair

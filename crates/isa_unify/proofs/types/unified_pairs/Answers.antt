@@ -2,7 +2,7 @@ use Rattle.std.proofs.Common.{Some, sym, ap, ◌∙◌, ◌∷◌, arith}
 use Rattle.isa_unify.specs.TypeUnification.{type_state, types_unified}
 use Rattle.isa_unify.specs.TypeStacks.{pair_of, stack_of, resolved}
 use Rattle.isa_unify.proofs.Stacks.{loop_same, loop_falls, loop_refused, state_popped, unified_finished, started}
-use Rattle.isa_unify.proofs.types.unify_type_pairs.Goals as goal
+use Rattle.isa_unify.proofs.types.unified_pairs.Goals as goal
 
 pub loop-pair-init : goal.loop-pair-init
 loop-pair-init c = ap (λ s. types_unified (type_state (stack_of c.args.work.items) (resolved s))) c.new-solution.ensures.items ∙ started (stack_of c.args.work.items)
