@@ -1,0 +1,3 @@
+pub mod TypeSteps
+pub mod TypeOutcomes
+pub mod TypePhrases
