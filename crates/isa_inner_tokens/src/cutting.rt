@@ -101,7 +101,12 @@ fn name_in(alloc: Global, kind: Kind, bytes: &[u8]) -> Result<Name, AllocError>
 }
 
 /// A name of the text as a word, with its length.
-fn name_word(alloc: Global, text: &[u8], kind: Kind, count: usize) -> Result<Option<(usize, Word)>, AllocError>
+fn name_word(
+    alloc: Global,
+    text: &[u8],
+    kind: Kind,
+    count: usize,
+) -> Result<Option<(usize, Word)>, AllocError>
     requires { (0 < count) × (count ≤ length text.now) }
     ensures { IfOk result (λ found. found ≡ Some (count, Word.Named kind (name_in kind (take count text.now)))) }
 {
@@ -110,7 +115,11 @@ fn name_word(alloc: Global, text: &[u8], kind: Kind, count: usize) -> Result<Opt
 }
 
 /// The word that the text begins with, and its length.
-fn first_word(alloc: Global, signs: &Signs, text: &[u8]) -> Result<Option<(usize, Word)>, AllocError>
+fn first_word(
+    alloc: Global,
+    signs: &Signs,
+    text: &[u8],
+) -> Result<Option<(usize, Word)>, AllocError>
     ensures found { IfOk result (λ found. found ≡ first_word signs.now text.now) }
     ensures within { IfOk result (λ found. IfSome found (λ f. (0 < f.0) × (f.0 ≤ length text.now))) }
 {
