@@ -44,3 +44,16 @@ OneTypeOutcome = (s : Step) (o u : Outcome) → Runs s o → Runs s u → o ≡ 
 -- What is read is a phrase of the grammar.
 abbrev pub ReadsTypes : Type 0
 ReadsTypes = (d : ℕ) (ts : List TypeToken) (T : Ty) (h : ℕ) (rest : List TypeToken) → Runs (step (Whole d) ts) (Read T h rest) → TypePhrase ts T rest
+
+-- nested too deep
+abbrev pub IsDeep : Outcome → Type 0
+IsDeep (Read T h rest) = ⊥
+IsDeep (Refused (refusal.Expected w) at) = ⊥
+IsDeep (Refused refusal.Undeclared at) = ⊥
+IsDeep (Refused refusal.Arity at) = ⊥
+IsDeep (Refused refusal.Deep at) = Unit {0}
+IsDeep (Refused (refusal.Met n) at) = ⊥
+
+-- A text that is a phrase of the grammar is read as just this type, or refused as nested too deep.
+abbrev pub NoTypeDeadEnd : Type 0
+NoTypeDeadEnd = (ts : List TypeToken) (T : Ty) (o : Outcome) → TypePhrase ts T [] → Runs (type_text ts) o → IsDeep o ⊎ ((h : ℕ) × (o ≡ Read T h []))

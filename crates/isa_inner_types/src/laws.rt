@@ -1,5 +1,5 @@
 //! Laws of the grammar of types.
-ghost use Rattle.isa_inner_types.specs.TypeGrammar.{OneTypeOutcome, ReadsTypes};
+ghost use Rattle.isa_inner_types.specs.TypeGrammar.{NoTypeDeadEnd, OneTypeOutcome, ReadsTypes};
 
 /// Tokens have one reading as a type, or one refusal, at most.
 pub fn one_type_outcome()
@@ -9,4 +9,9 @@ pub fn one_type_outcome()
 /// What is read as a type is a phrase of the grammar of types.
 pub fn reads_types()
     ensures { ReadsTypes }
+{}
+
+/// A text that is a phrase of the grammar is read as just this type, or refused as nested too deep.
+pub fn no_type_dead_end()
+    ensures { NoTypeDeadEnd }
 {}

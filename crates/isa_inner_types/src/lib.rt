@@ -5,6 +5,6 @@ mod laws;
 mod reading;
 mod token;
 
-pub use laws::{one_type_outcome, reads_types};
+pub use laws::{no_type_dead_end, one_type_outcome, reads_types};
 pub use reading::{Fail, read_type, read_whole_type};
 pub use token::{TypeRefusal, TypeToken, TypeWanted};
