@@ -2,8 +2,10 @@
 #![tactic(auto)]
 
 mod cutting;
+mod fixed;
 mod names;
 mod sign;
 
 pub use cutting::{Kind, Word, words};
+pub use fixed::declare_fixed;
 pub use sign::{Sign, Signs, TypeMark};
