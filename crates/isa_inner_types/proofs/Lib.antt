@@ -1,0 +1,4 @@
+pub mod TypeSteps
+pub mod TypeOutcomes
+pub mod TypePhrases
+pub mod TypeComplete

@@ -1,0 +1,3 @@
+pub mod TypeReading
+pub mod TypeAnswers
+pub mod TypeGrammar
