@@ -1,9 +1,9 @@
 -- Derived inferences: their records replay, and give what their definitions say.
-use Rattle.std.proofs.Common.{◌≡◌, List, [], ◌∷◌, Bool, true, false, cond, ◌||◌, ◌&&◌, Some, None, Ok, Err, Result, IfOk, length, arith, map, refl, sym, ap, ◌∙◌, subst, ◌++◌, append-nil}
+use Rattle.std.proofs.Common.{◌≡◌, List, [], ◌∷◌, Bool, true, false, cond, ◌||◌, Some, None, Ok, Err, Result, IfOk, length, arith, refl, sym, ap, ◌∙◌, subst, ◌++◌, append-nil}
 use Rattle.std.specs.Prelude.{option_and_then}
 use Rattle.std.specs.List.{slice_get}
 use Rattle.std.proofs.Common.{ℕ, zero, suc}
-use Rattle.isa_terms.specs.Terms.{Tm, bare}
+use Rattle.isa_terms.specs.Terms.{Tm}
 use Rattle.isa_terms.specs.Equal.{tm_eq}
 use Rattle.isa_terms.specs.Sets.{has, missing, joined, without}
 use Rattle.isa_terms.specs.Typing.{type_at}
@@ -16,7 +16,7 @@ use Rattle.isa_kernel.specs.Logic.{prop, imp, IsProposition}
 use Rattle.isa_kernel.specs.Theorem.{Theorem, IsDerived}
 use Rattle.isa_kernel.specs.Axioms.{joined_bases}
 use Rattle.isa_kernel.specs.Inferences.{has_type, assumed, implies_introduced, implies_eliminated}
-use Rattle.isa_kernel.specs.Derived.{renamed, implies, are_propositions, behind_premises, discharged, with_premises, conclusion_behind, undischarged}
+use Rattle.isa_kernel.specs.Derived.{renamed, implies, behind_premises, with_premises, conclusion_behind, undischarged}
 use Rattle.isa_kernel.specs.Replay.{Replay, IsRecorded}
 use Rattle.isa_kernel.specs.Replays.{replay_of}
 use Rattle.isa_kernel.specs.declared.log.LogNode.TheVariants.{Assume, ImpliesIntr, ImpliesElim}
@@ -47,7 +47,6 @@ typed_like : (p : Tm) (th : Theorem) → IsDerived th → tm_eq p th.prop ≡ tr
 typed_like p th d e = sym (type_at_bare [] p) ∙ ap (type_at []) ((tm_decides p th.prop).0 e) ∙ derived_proposition d.derivation.tree
 
 module _ (p : Tm) (th : Theorem) where
-
   assumes : has_type p prop ≡ true → assumed p ≡ Some (record { hyps = p ∷ []; prop = p; base = [] })
   assumes w = ap (λ b. cond b (Some (record { hyps = p ∷ []; prop = p; base = [] })) None) w
 

@@ -1,5 +1,5 @@
 -- Noting entries in an index, and finding them.
-use Rattle.std.proofs.Common.{◌≡◌, ℕ, zero, suc, ◌+◌, ◌<◌, nat_eq, List, [], ◌∷◌, ◌++◌, length, Option, Some, None, Bool, true, false, cond, ◌||◌, ◌&&◌, drop, refl, sym, ap, ◌∙◌, subst}
+use Rattle.std.proofs.Common.{◌≡◌, ℕ, zero, suc, nat_eq, List, [], ◌∷◌, Option, Some, None, Bool, true, false, cond, ◌||◌, ◌&&◌, refl, sym, ap, ◌∙◌}
 use Rattle.std.specs.List.{slice_get}
 use Rattle.std.specs.Map.{lookup}
 use Rattle.isa_terms.specs.Terms.{Tm}
@@ -7,7 +7,7 @@ use Rattle.isa_terms.specs.Equal.{name_eq}
 use Rattle.isa_kernel.specs.declared.axioms.NamedProp.{NamedProp}
 use Rattle.isa_kernel.specs.declared.base.BaseEntry.{BaseEntry}
 use Rattle.isa_kernel.specs.declared.base.BaseEntry.TheVariants.{Axiom, Cite}
-use Rattle.isa_kernel.specs.Axioms.{same_entry, has_entry, missing_entries, joined_bases}
+use Rattle.isa_kernel.specs.Axioms.{same_entry, has_entry}
 use Rattle.isa_kernel.specs.Indexes.{place_of, IsIndexed, Notes}
 
 -- a key that has no value after another got one is another

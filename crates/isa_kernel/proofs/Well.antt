@@ -12,9 +12,8 @@ use Rattle.isa_terms.specs.declared.typing.IllTyped.{IllTyped}
 use Rattle.isa_kernel.specs.Logic.{prop}
 use Rattle.isa_kernel.specs.TypeInstances.{is_instance}
 use Rattle.isa_kernel.specs.Theories.{arity_of, constant_type, axiom_prop, takes, stands_at, unknown_in_ty, unknown_in_tys, unknown_in, misfit_in_ty, misfit_in_tys, misfit_in, duplicate, no_prop}
-use Rattle.isa_kernel.specs.Well.{IsInstanceOf, WellTy, WellTys, IsWellConstant, Well, IsRefusedFor}
+use Rattle.isa_kernel.specs.Well.{IsInstanceOf, WellTy, WellTys, Well, IsRefusedFor}
 use Rattle.isa_kernel.specs.declared.declarations.Declaration.{Declaration}
-use Rattle.isa_kernel.specs.declared.declarations.TheoryFail.{TheoryFail}
 use Rattle.isa_kernel.specs.declared.declarations.TheoryFail.TheVariants as fail
 use Rattle.isa_kernel.proofs.TypeInstances.{instance_found, found_instance}
 

@@ -1,6 +1,6 @@
 -- Inferences that the primitive ones make, each as the theorem that it gives.
 -- Source: the derived rules of LCF provers, as `DISCH`, `UNDISCH` and `ALPHA` of HOL Light (Harrison, "HOL Light: a tutorial introduction", 1996).
-use Rattle.std.specs.Prelude.{◌≡◌, List, [], ◌∷◌, Option, Some, None, Bool, true, false, ◌&&◌, if◌then◌else◌, Result, Ok, Err}
+use Rattle.std.specs.Prelude.{List, [], ◌∷◌, Option, Some, None, Bool, true, ◌&&◌, if◌then◌else◌}
 use Rattle.isa_terms.specs.Terms.{Tm}
 use Rattle.isa_terms.specs.Equal.{tm_eq}
 use Rattle.isa_terms.specs.Sets.{missing, joined}

@@ -1,5 +1,5 @@
 -- An index of the entries of a long base, of which no contract of a public call speaks: an entry without a key in it is none of them.
-use Rattle.std.specs.Prelude.{◌≡◌, ℕ, List, Option, None, Bool, false, nat_eq}
+use Rattle.std.specs.Prelude.{◌≡◌, ℕ, List, Option, None, false, nat_eq}
 use Rattle.std.specs.Map.{lookup}
 use Rattle.isa_terms.specs.Equal.{name_eq}
 use Rattle.isa_kernel.specs.declared.base.BaseEntry.{BaseEntry}
