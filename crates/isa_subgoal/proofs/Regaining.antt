@@ -47,7 +47,7 @@ abbrev pub ShortVars : ℕ → List Var → Type 0
 ShortVars n [] = Unit {0}
 ShortVars n (v ∷ vs) = (length v.0 < n) × ShortVars n vs
 
-short_more : (n m : ℕ) (t : Tm) → n ≤ m → IsShort n t → IsShort m t
+pub short_more : (n m : ℕ) (t : Tm) → n ≤ m → IsShort n t → IsShort m t
 short_more n m (Const x T) l s = tt
 short_more n m (Free x T) l s = omega (arith, s, l)
 short_more n m (Unknown x i T) l s = tt
@@ -55,11 +55,11 @@ short_more n m (Bound i) l s = tt
 short_more n m (Abs x T b) l s = short_more n m b l s
 short_more n m (App f a) l s = (short_more n m f l s.0, short_more n m a l s.1)
 
-all_short_more : (n m : ℕ) (ts : List Tm) → n ≤ m → AllShort n ts → AllShort m ts
+pub all_short_more : (n m : ℕ) (ts : List Tm) → n ≤ m → AllShort n ts → AllShort m ts
 all_short_more n m [] l s = tt
 all_short_more n m (t ∷ ts) l s = (short_more n m t l s.0, all_short_more n m ts l s.1)
 
-vars_short_more : (n m : ℕ) (vs : List Var) → n ≤ m → ShortVars n vs → ShortVars m vs
+pub vars_short_more : (n m : ℕ) (vs : List Var) → n ≤ m → ShortVars n vs → ShortVars m vs
 vars_short_more n m [] l s = tt
 vars_short_more n m (v ∷ vs) l s = let h : length v.0 < n = s.0 in (omega arith, vars_short_more n m vs l s.1)
 
@@ -92,7 +92,7 @@ all_fill_short : (n : ℕ) (vs : List Var) (ts : List Tm) → ShortVars n vs →
 all_fill_short n vs [] v s = tt
 all_fill_short n vs (t ∷ ts) v s = (fill_short n 0 vs t v s.0, all_fill_short n vs ts v s.1)
 
-misses : (x : List ℕ) (S : Ty) (t : Tm) → IsShort (length x) t → occurs x S t ≡ false
+pub misses : (x : List ℕ) (S : Ty) (t : Tm) → IsShort (length x) t → occurs x S t ≡ false
 misses x S (Const y T) s = refl
 misses x S (Free y T) s = longer_name x y (ty_eq S T) (name_eq x y) refl s
 misses x S (Unknown y i T) s = refl
@@ -105,11 +105,11 @@ member_misses x S [] t s m = absurd m
 member_misses x S (u ∷ us) t s (inl e) = ap (occurs x S) e ∙ misses x S u s.0
 member_misses x S (u ∷ us) t s (inr m) = member_misses x S us t s.1 m
 
-new_vars : (x : List ℕ) (S : Ty) (vs : List Var) → ShortVars (length x) vs → IsNew x S vs
+pub new_vars : (x : List ℕ) (S : Ty) (vs : List Var) → ShortVars (length x) vs → IsNew x S vs
 new_vars x S [] s = tt
 new_vars x S (v ∷ vs) s = (longer_name x v.0 (ty_eq S v.1) (name_eq x v.0) refl s.0, new_vars x S vs s.1)
 
-colons_length : (n : ℕ) → length (colons n) ≡ n
+pub colons_length : (n : ℕ) → length (colons n) ≡ n
 colons_length zero = refl
 colons_length (suc n) = let l = length-append (colons n) (58 ∷ []) in omega (arith, l, colons_length n)
 
@@ -140,11 +140,11 @@ pub record Regains (vs : List Var) (hs : List Tm) (t w : Tm) (o : Option Theorem
   pub within : Within theorem.hyps (w ∷ map (fill vs 0) hs)
 
 -- at the conclusion the assumptions are eliminated
-fill_implies : (vs : List Var) (k : ℕ) (hs : List Tm) (c : Tm) → fill vs k (implies hs c) ≡ implies (map (fill vs k) hs) (fill vs k c)
+pub fill_implies : (vs : List Var) (k : ℕ) (hs : List Tm) (c : Tm) → fill vs k (implies hs c) ≡ implies (map (fill vs k) hs) (fill vs k c)
 fill_implies vs k [] c = refl
 fill_implies vs k (h ∷ hs) c = ap (imp (fill vs k h)) (fill_implies vs k hs c)
 
-filled_propositions : (vs : List Var) (hs : List Tm) → AllTyped (types vs) hs → ArePropositions (map (fill vs 0) hs)
+pub filled_propositions : (vs : List Var) (hs : List Tm) → AllTyped (types vs) hs → ArePropositions (map (fill vs 0) hs)
 filled_propositions vs [] w = tt
 filled_propositions vs (h ∷ hs) w = (type_of_typed (fill_typed [] vs refl w.0), filled_propositions vs hs w.1)
 

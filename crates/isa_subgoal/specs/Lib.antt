@@ -4,3 +4,7 @@ pub mod Shape
 pub mod Reshaping
 pub mod Rules
 pub mod Lift
+pub mod Parts
+pub mod Elimination
+pub mod Renumbering
+pub mod Lifting

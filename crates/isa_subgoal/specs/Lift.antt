@@ -1,10 +1,15 @@
 -- The lifting of a rule over the parameters and the assumptions of a subgoal.
 -- Source: lifting (Paulson, "The foundation of a generic theorem prover", 1989; The Isabelle/Isar Implementation Manual, "Object-level rules", "Rule composition").
-use Rattle.std.specs.Prelude.{◌≡◌, ℕ, zero, suc, ◌+◌, List, [], ◌∷◌, map, length}
+use Rattle.std.specs.Prelude.{◌≡◌, ℕ, zero, suc, ◌+◌, List, [], ◌∷◌, map, length, Some, Result}
 use Rattle.isa_terms.specs.Types.{Ty}
 use Rattle.isa_terms.specs.Terms.{Tm, Const, Free, Unknown, Bound, Abs, App}
 use Rattle.isa_terms.specs.Typing.{function_of}
-use Rattle.isa_kernel.specs.Logic.{all}
+use Rattle.isa_terms.specs.Normal.{IsNormal}
+use Rattle.isa_terms.specs.Typed.{Typed}
+use Rattle.isa_terms.specs.Instances.{Each}
+use Rattle.isa_kernel.specs.Logic.{prop, all}
+use Rattle.isa_kernel.specs.declared.inference.InferenceError.{InferenceError}
+use Rattle.isa_kernel.specs.Inferences.{Answers}
 use Rattle.isa_kernel.specs.Theorem.{Theorem}
 use Rattle.isa_subgoal.specs.declared.lift.Parameter.{Parameter}
 use Rattle.isa_subgoal.specs.Premises.{implies, premises, conclusion}
@@ -43,3 +48,16 @@ lifted_prop xs hs th = implies (map (lift_over xs hs) (premises th.prop)) (lift_
 -- over no parameter each premise and the conclusion stand under the assumptions, and nothing else changes
 abbrev pub LiftedOverNoParameter : Type 0
 LiftedOverNoParameter = (hs : List Tm) (th : Theorem) → lifted_prop [] hs th ≡ implies (map (implies hs) (premises th.prop)) (implies hs (conclusion th.prop))
+
+-- the rule lifted over the parameters and the assumptions, as a theorem by the rule's axioms
+abbrev pub lifted_rule : List Parameter → List Tm → Theorem → Theorem
+lifted_rule xs hs th = record { hyps = []; prop = lifted_prop xs hs th; base = th.base }
+
+-- the types of the parameters, the innermost first, before those of G
+abbrev pub types_under : List Parameter → List Ty → List Ty
+types_under [] G = G
+types_under (x ∷ xs) G = types_under xs (x.typ ∷ G)
+
+-- no refusal comes for a normal rule without hypotheses and assumptions that are propositions under the parameters
+abbrev pub Lifts : List Parameter → List Tm → Theorem → Result Theorem InferenceError → Type 0
+Lifts xs hs th answer = th.hyps ≡ [] → IsNormal th.prop → Each (λ h. Typed (types_under xs []) h prop) hs → Answers answer (Some (lifted_rule xs hs th))

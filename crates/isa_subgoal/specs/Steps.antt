@@ -58,3 +58,12 @@ raised hs ps th = do
   core ← met_under hs ps th
   inner ← introduced hs core
   introduced (map (implies hs) ps) inner
+
+-- a rule for destruction turned into one for elimination: what is behind the premises ps meets the premise of `case`, which is `B ==> R`, and R comes under the premises `all`
+-- none where th has not the premises ps, or where what is behind them is not the premise of `case`
+unfoldable pub eliminated_into : List Tm → Tm → List Tm → Theorem → Option Theorem
+eliminated_into ps case all th = do
+  met ← eliminated ps th
+  a ← assumed case
+  goal ← implies_eliminated a met
+  introduced all goal

@@ -100,6 +100,22 @@ fn or_copy(changed: Option<Term>, t: &Term) -> Result<Term, AllocError>
     }
 }
 
+/// The unknown applied to all parameters, the outermost first, under `depth` binders more.
+pub(crate) fn lift_unknown(
+    alloc: Global,
+    parameters: &[Parameter],
+    depth: u32,
+    name: &Name,
+    number: u32,
+    typ: &Typ,
+) -> Result<Term, AllocError>
+    ensures { IfOk result (λ t. t ≡ lift parameters.now depth (tm.Unknown name.now number typ.now)) }
+{
+    let typ = over_types(alloc, parameters, typ)?;
+    let fun = Term::new(alloc, TermNode::Unknown(name.copy()?, number, typ))?;
+    applied(alloc, fun, parameters, depth)
+}
+
 /// What lifting over the parameters makes of a term under `depth` binders: nothing where it stays as it is, so that a part
 /// without unknowns is shared and not rebuilt.
 fn lift_change(
@@ -114,9 +130,8 @@ fn lift_change(
     match t.view() {
         TermNode::Const(_, _) | TermNode::Free(_, _) | TermNode::Bound(_) => Ok(None),
         TermNode::Unknown(name, number, typ) => {
-            let typ = over_types(alloc, parameters, typ)?;
-            let fun = Term::new(alloc, TermNode::Unknown(name.copy()?, *number, typ))?;
-            Ok(Some(applied(alloc, fun, parameters, depth)?))
+            let lifted = lift_unknown(alloc, parameters, depth, name, *number, typ)?;
+            Ok(Some(lifted))
         }
         TermNode::Abs(name, typ, body) => {
             let under = depth.checked_add(1).ok_or(AllocError)?;
@@ -137,7 +152,7 @@ fn lift_change(
 }
 
 /// The term, in which each unknown is applied to all parameters, under the assumptions and the parameters.
-fn lift_over(
+pub(crate) fn lift_over(
     alloc: Global,
     parameters: &[Parameter],
     hyps: &[Term],
@@ -151,7 +166,7 @@ fn lift_over(
 }
 
 /// The same of each term, behind those that are done.
-fn lift_all_over(
+pub(crate) fn lift_all_over(
     alloc: Global,
     parameters: &[Parameter],
     hyps: &[Term],

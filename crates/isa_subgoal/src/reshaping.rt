@@ -15,7 +15,12 @@ use isa_terms::{Inst, Name, Term, TermNode, Terms, Typ, copied};
 use std::alloc::{AllocError, Global};
 
 /// The terms, the innermost first, in the place of the binders round `depth` binders.
-fn opened(alloc: Global, terms: &[Term], depth: u32, t: &Term) -> Result<Term, AllocError>
+pub(crate) fn opened(
+    alloc: Global,
+    terms: &[Term],
+    depth: u32,
+    t: &Term,
+) -> Result<Term, AllocError>
     ensures { IfOk result (λ r. r ≡ opened terms.now depth t.now) }
 {
     match t.view() {
@@ -72,7 +77,7 @@ fn colons(alloc: Global, length: usize) -> Result<Name, AllocError>
 }
 
 /// The free variable whose name has that length.
-fn variable(alloc: Global, length: usize, typ: &Typ) -> Result<Term, AllocError>
+pub(crate) fn variable(alloc: Global, length: usize, typ: &Typ) -> Result<Term, AllocError>
     ensures { IfOk result (λ t. t ≡ Free (colons length) typ.now) }
 {
     let name = colons(alloc, length)?;
@@ -80,7 +85,7 @@ fn variable(alloc: Global, length: usize, typ: &Typ) -> Result<Term, AllocError>
 }
 
 /// The term before the others.
-fn put_first(alloc: Global, first: &Term, others: &[Term]) -> Result<Terms, AllocError>
+pub(crate) fn put_first(alloc: Global, first: &Term, others: &[Term]) -> Result<Terms, AllocError>
     ensures { IfOk result (λ r. r ≡ first.now ∷ others.now) }
 {
     let mut one = Terms::new(alloc);

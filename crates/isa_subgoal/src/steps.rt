@@ -4,37 +4,23 @@ ghost use Rattle.isa_subgoal.specs.Premises.{implies};
 ghost use Rattle.isa_subgoal.specs.Steps.{eliminated, introduced, cut, rotated, met_under, raised};
 ghost use Rattle.isa_subgoal.specs.Rules.{Cuts, Rotates, Raises};
 
-use isa_kernel::{InferenceError, Thm, assume, implies_elim, implies_intr, make_imp};
+use isa_kernel::{InferenceError, Thm, assume, discharge, implies_elim, make_imp, undischarge};
 use isa_terms::{Term, Terms, copied};
 use std::alloc::{AllocError, Global};
 
 /// What is behind the premises, under these as hypotheses.
-#[tactic(auto, unfolding(crate::specs::Steps::eliminated))]
 pub(crate) fn eliminate(alloc: Global, premises: &[Term], th: Thm) -> Result<Thm, InferenceError>
     ensures { Answers result (eliminated premises.now th) }
 {
-    match premises.split_first() {
-        None => Ok(th),
-        Some((first, rest)) => {
-            let assumed = assume(alloc, first)?;
-            let next = implies_elim(alloc, &th, &assumed)?;
-            eliminate(alloc, rest, next)
-        }
-    }
+    th.is_derived();
+    undischarge(alloc, premises, &th)
 }
 
 /// The premises before the theorem, and out of its hypotheses.
-#[tactic(auto, unfolding(crate::specs::Steps::introduced))]
-fn introduce(alloc: Global, premises: &[Term], th: Thm) -> Result<Thm, InferenceError>
+pub(crate) fn introduce(alloc: Global, premises: &[Term], th: Thm) -> Result<Thm, InferenceError>
     ensures { Answers result (introduced premises.now th) }
 {
-    match premises.split_first() {
-        None => Ok(th),
-        Some((first, rest)) => {
-            let inner = introduce(alloc, rest, th)?;
-            implies_intr(alloc, first, &inner)
-        }
-    }
+    discharge(alloc, premises, &th)
 }
 
 /// The theorem with a rule's premises in the place of the premise behind the first ones.
@@ -156,7 +142,7 @@ fn meet_under(
 
 /// The theorem with its premises and what is behind them under the assumptions.
 #[tactic(auto, unfolding(crate::specs::Steps::raised))]
-fn raise_by_inferences(
+pub(crate) fn raise_by_inferences(
     alloc: Global,
     assumptions: &[Term],
     premises: &[Term],

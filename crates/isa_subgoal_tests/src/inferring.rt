@@ -1,8 +1,9 @@
 use crate::comparing::is_same;
-use crate::reading::{part, terms};
+use crate::lifting::lifted_theorem;
+use crate::reading::{part, small_number, terms};
 use isa_kernel::{InferenceError, Thm};
 use isa_sketch::{Bench, Fault, is_word, number, split};
-use isa_subgoal::{cut, raise_rule, reshape, rotate};
+use isa_subgoal::{cut, make_elimination, raise_rule, renumber_rule, reshape, rotate};
 use isa_terms::Terms;
 use std::alloc::Global;
 
@@ -44,6 +45,9 @@ fn derived(alloc: Global, bench: &Bench, verb: &str, rest: &str) -> Result<Thm, 
         "rotate" => rotated_by(alloc, bench, rest),
         "raise_rule" => raised_by(alloc, bench, rest),
         "reshape" => reshaped_by(alloc, bench, rest),
+        "lift_rule" => lifted_by(alloc, bench, rest),
+        "renumber_rule" => renumbered_by(alloc, bench, rest),
+        "make_elimination" => eliminated_by(alloc, bench, rest),
         _ => Err(Fault::Words),
     }
 }
@@ -113,6 +117,40 @@ fn reshaped_by(alloc: Global, bench: &Bench, rest: &str) -> Result<Thm, Fault> {
 
 fn formed(alloc: Global, subgoals: &Terms, th: &Thm) -> Result<Thm, Fault> {
     answered(reshape(alloc, subgoals.as_slice(), th))
+}
+
+/// By the texts `PARAMETERS ; ASSUMPTIONS ; RULE`.
+fn lifted_by(alloc: Global, bench: &Bench, rest: &str) -> Result<Thm, Fault> {
+    let (parameters, rest) = part(rest)?;
+    let (assumptions, words) = part(rest)?;
+    let assumptions = terms(alloc, bench, assumptions)?;
+    let rule = bench.thm(alloc, words)?;
+    answered(lifted_theorem(alloc, parameters, &assumptions, &rule)?)
+}
+
+/// By the texts `NUMBER ; RULE`.
+fn renumbered_by(alloc: Global, bench: &Bench, rest: &str) -> Result<Thm, Fault> {
+    let (number, words) = part(rest)?;
+    let rule = bench.thm(alloc, words)?;
+    renumbered(alloc, small_number(number)?, &rule)
+}
+
+fn renumbered(alloc: Global, by: u32, rule: &Thm) -> Result<Thm, Fault> {
+    answered(renumber_rule(alloc, by, rule))
+}
+
+/// By the texts `NUMBER ; RULE`; a rule with hypotheses is not asked for.
+fn eliminated_by(alloc: Global, bench: &Bench, rest: &str) -> Result<Thm, Fault> {
+    let (number, words) = part(rest)?;
+    let rule = bench.thm(alloc, words)?;
+    eliminated(alloc, small_number(number)?, &rule)
+}
+
+fn eliminated(alloc: Global, number: u32, rule: &Thm) -> Result<Thm, Fault> {
+    if rule.hyps().len() > 0 {
+        return Err(Fault::Words);
+    }
+    answered(make_elimination(alloc, rule, number))
 }
 
 fn answered(answer: Result<Thm, InferenceError>) -> Result<Thm, Fault> {

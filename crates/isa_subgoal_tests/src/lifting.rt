@@ -1,6 +1,6 @@
-use isa_kernel::Thm;
+use isa_kernel::{InferenceError, Thm};
 use isa_sketch::{Fault, is_word, typ};
-use isa_subgoal::{Parameter, lifted};
+use isa_subgoal::{Parameter, lift_rule, lifted};
 use isa_terms::{Name, Term, Terms};
 use std::alloc::Global;
 
@@ -8,6 +8,17 @@ use std::alloc::Global;
 pub fn lifted_over(alloc: Global, text: &str, hyps: &Terms, rule: &Thm) -> Result<Term, Fault> {
     let parameters = parameters(alloc, text)?;
     Ok(lifted(alloc, parameters.as_slice(), hyps.as_slice(), rule)?)
+}
+
+/// The same as a theorem, or why there is none.
+pub fn lifted_theorem(
+    alloc: Global,
+    text: &str,
+    assumptions: &Terms,
+    rule: &Thm,
+) -> Result<Result<Thm, InferenceError>, Fault> {
+    let parameters = parameters(alloc, text)?;
+    Ok(lift_rule(alloc, parameters.as_slice(), assumptions.as_slice(), rule))
 }
 
 fn parameters(alloc: Global, text: &str) -> Result<Vec<Parameter>, Fault> {

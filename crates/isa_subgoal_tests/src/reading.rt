@@ -1,4 +1,4 @@
-use isa_sketch::{Bench, Fault, is_word};
+use isa_sketch::{Bench, Fault, is_word, number};
 use isa_terms::Terms;
 use std::alloc::Global;
 
@@ -17,4 +17,9 @@ pub fn terms(alloc: Global, bench: &Bench, text: &str) -> Result<Terms, Fault> {
         all.push(bench.term(alloc, words)?)?;
     }
     Ok(all)
+}
+
+/// The number that the text writes, of 32 bits.
+pub fn small_number(text: &str) -> Result<u32, Fault> {
+    u32::try_from(number(text)?).map_err(|_| Fault::Words)
 }

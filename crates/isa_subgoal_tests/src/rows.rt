@@ -42,7 +42,7 @@ fn call_row(alloc: Global, bench: &Bench, wanted: &str, call: &str) -> Result<bo
     let (verb, rest) = split(call)?;
     match verb {
         "lifted" | "make_implies" | "conclusion" => term_row(alloc, bench, wanted, verb, rest),
-        "split_rule" | "split_leading" | "split_all_premises" => {
+        "split_rule" | "split_leading" | "split_all_premises" | "split_subgoal" => {
             premises_row(alloc, bench, wanted, verb, rest)
         }
         "spliced" => spliced_row(alloc, bench, wanted, rest),

@@ -2,7 +2,9 @@ use crate::comparing::{are, is_same};
 use crate::reading::{part, terms};
 use isa_kernel::Thm;
 use isa_sketch::{Bench, Fault, is_word, number};
-use isa_subgoal::{Premises, is_all, spliced, split_all_premises, split_leading, split_rule};
+use isa_subgoal::{
+    Premises, is_all, spliced, split_all_premises, split_leading, split_rule, split_subgoal,
+};
 use isa_terms::{Term, Terms};
 use std::alloc::Global;
 
@@ -34,6 +36,7 @@ fn found(alloc: Global, bench: &Bench, verb: &str, rest: &str) -> Result<Option<
         "split_rule" => of_rule(alloc, bench, first, rest),
         "split_leading" => Ok(Some(leading(alloc, bench, first, rest)?)),
         "split_all_premises" => Ok(Some(all(alloc, bench, first, rest)?)),
+        "split_subgoal" => of_subgoal(alloc, bench, first, rest),
         _ => Err(Fault::Words),
     }
 }
@@ -66,6 +69,28 @@ fn all(alloc: Global, bench: &Bench, done: &str, words: &str) -> Result<Premises
     let done = terms(alloc, bench, done)?;
     let t = bench.term(alloc, words)?;
     Ok(split_all_premises(&t, done)?)
+}
+
+/// By the texts `COUNT ; SUBGOAL`; none where it has not so many parameters.
+fn of_subgoal(
+    alloc: Global,
+    bench: &Bench,
+    count: &str,
+    words: &str,
+) -> Result<Option<Premises>, Fault> {
+    let t = bench.term(alloc, words)?;
+    under_parameters(alloc, number(count)?, &t)
+}
+
+fn under_parameters(alloc: Global, count: usize, t: &Term) -> Result<Option<Premises>, Fault> {
+    let parts = split_subgoal(alloc, t)?;
+    if parts.parameters.len() != count {
+        return Ok(None);
+    }
+    Ok(Some(Premises {
+        premises: parts.assumptions,
+        conclusion: parts.conclusion,
+    }))
 }
 
 /// Whether the three lists, written as `A ; B ; C`, give the one that is wanted.
