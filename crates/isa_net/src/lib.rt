@@ -1,0 +1,18 @@
+//! Term nets: values under keys, so that a look-up meets only the keys whose words agree with a term.
+#![tactic(auto)]
+
+mod items;
+mod leaves;
+mod lookup;
+mod mode;
+mod node;
+mod pruning;
+mod rank;
+mod ranks;
+mod steps;
+mod symbol;
+mod tree;
+mod word;
+
+pub use rank::Rank;
+pub use steps::Steps;
