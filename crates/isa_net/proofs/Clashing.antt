@@ -1,168 +1,150 @@
--- A key whose word doesn't agree with a term clashes with it.
-use Rattle.std.proofs.Common.{◌≡◌, ◌≢◌, ◌⊎◌, inl, inr, ℕ, zero, suc, ◌+◌, ◌<◌, ◌≤◌, Bool, true, false, cond, ◌&&◌, nat_eq, List, [], ◌∷◌, ◌++◌, length, length-append, append_assoc, Option, Some, None, refl, sym, ap, ◌∙◌, arith}
-use Rattle.std.specs.Prelude.{is_some, option_map}
+-- A key whose word doesn't agree with a term clashes with it, and a pattern that does has no match.
+use Rattle.std.proofs.Common.{◌≡◌, ◌≢◌, ◌⊎◌, inl, inr, ℕ, zero, suc, ◌+◌, ◌<◌, ◌≤◌, Bool, true, false, not, cond, ◌&&◌, nat_eq, List, [], ◌∷◌, ◌++◌, length, length-append, append_assoc, Option, Some, None, refl, sym, ap, ◌∙◌, subst, arith}
+use Rattle.std.specs.Prelude.{is_some, option_map, unwrap_or}
+use Rattle.std.specs.List.{slice_get}
 use Rattle.std.proofs.lemmas.Bool.Decides.{nat_tests}
 use Rattle.std.proofs.lemmas.List.{append-nil}
-use Rattle.isa_terms.specs.Types.{Ty}
+use Rattle.isa_terms.specs.Types.{Ty, Tys, TyCon, TyFixed, TyUnknown, NoTys, MoreTys}
 use Rattle.isa_terms.specs.Terms.{Tm, Const, Free, Unknown, Bound, Abs, App, nodes}
 use Rattle.isa_terms.specs.Equal.{name_eq}
-use Rattle.isa_unify.specs.Spines.{head_of, args_of}
-use Rattle.isa_unify.specs.Descent.{Step, Done, Lighter, Solved}
-use Rattle.isa_unify.specs.TypeUnification.{unify_typs}
-use Rattle.isa_unify.specs.Unification.{paired, typed_parts, meet, parts_at, weight, clash_step_at, clash_step, clashes}
-use Rattle.isa_unify.specs.declared.equation.Variable.{Variable}
-use Rattle.isa_unify.specs.declared.equation.Equation.{Equation}
-use Rattle.isa_unify.specs.declared.progress.Parts.{Parts}
-use Rattle.isa_unify.specs.declared.progress.Parts.TheVariants.{Flexible, Clash, Into, Heads}
-use Rattle.isa_unify.proofs.Adequacy.{ClashGoes, clash_goes, clashes-lighter, clashes-done}
+use Rattle.isa_terms.specs.Normal.{IsHead}
+use Rattle.isa_terms.specs.Instance.{Instance, find_type, inst_ty, inst_tys}
+use Rattle.isa_terms.specs.declared.inst.TypeEntry.{TypeEntry}
+use Rattle.isa_unify.specs.Spines.{head_of, args_of, is_flexible}
+use Rattle.isa_unify.specs.TypeUnification.{unify_typs, ty_has, tys_have}
+use Rattle.isa_unify.specs.Matching.{ty_matched}
+use Rattle.isa_unify.specs.Clashes.{TypesAgree, HeadsAgree, AreRigid, Clash, heads, numbers, argument}
+use Rattle.isa_unify.proofs.Tests.{name_self, name_true, number_self, key_true, key_turned, either_true}
+use Rattle.isa_unify.proofs.TypesUnify.{types_most_general, types_no_unifier}
+use Rattle.isa_unify.proofs.TypeMatches.{TypesWithin, types_within_self, ty_finds, ty_completes}
 use Rattle.isa_net.specs.declared.symbol.Symbol.{Symbol}
 use Rattle.isa_net.specs.declared.symbol.Symbol.TheVariants.{Star, Constant, Variable as Variable'}
-use Rattle.isa_net.specs.Symbols.{arity, symbol_eq}
-use Rattle.isa_net.specs.Words.{Item, Along, Over, overs, alongs, symbol_on, symbol_of, with_args, args_word, word, passes, along, after, reads, agrees}
-use Rattle.isa_net.specs.Inside.Index.{In}
-use Rattle.isa_net.proofs.Members.{in_left, in_right}
 use Rattle.isa_net.specs.declared.mode.Mode.{Mode}
 use Rattle.isa_net.specs.declared.mode.Mode.TheVariants.{Unifiable, Matching}
+use Rattle.isa_net.specs.Symbols.{arity, symbol_eq}
+use Rattle.isa_net.specs.Words.{Item, Along, Over, overs, alongs, symbol_on, symbol_of, with_args, args_word, word, opens_unknowns, passes, along, after, reads, agrees}
 
-abbrev pub between : List Variable → Tm → Tm → Equation
-between bs p t = record { binders = bs; left = p; right = t }
+-- the unknowns of the term count as constants
+abbrev pub is_fixed : Mode → Bool
+is_fixed mode = not (opens_unknowns mode)
 
--- the arguments are equated where the heads agree
-pub record Equates (bs : List Variable) (p t q u : Tm) : Type 0 where
-  pub left : Ty
-  pub right : Ty
-  pub equations : List Equation
-  pub parts : parts_at bs p t ≡ Heads left right equations
-  pub listed : In (between bs q u) equations
+-- ---- whether types agree
+-- each type unknown of the type stands for itself
+abbrev mutual
+  themselves : Ty → List TypeEntry
+  themselves (TyCon c Ts) = all_themselves Ts
+  themselves (TyFixed a) = []
+  themselves (TyUnknown x i) = record { name = x; number = i; typ = TyUnknown x i } ∷ []
 
--- at some place that is reached through agreeing heads the heads don't agree, or the numbers of arguments differ
-pub data Differs : Tm → Tm → Type 0 where
-  at_heads : {p t : Tm} → ((bs : List Variable) → parts_at bs p t ≡ Clash) → Differs p t
-  at_args : {p t : Tm} (q u : Tm) → ((bs : List Variable) → Equates bs p t q u) → Differs q u → Differs p t
+  all_themselves : Tys → List TypeEntry
+  all_themselves NoTys = []
+  all_themselves (MoreTys T Ts) = themselves T ++ all_themselves Ts
 
--- ---- what differs clashes
-record Has (es : List Equation) : Type 0 where
-  binders : List Variable
-  left : Tm
-  right : Tm
-  listed : In (between binders left right) es
-  differs : Differs left right
+-- entries by which each type unknown stands for itself
+abbrev AreThemselves : List TypeEntry → Type 0
+AreThemselves [] = Unit {0}
+AreThemselves (e ∷ es) = (e.typ ≡ TyUnknown e.name e.number) × AreThemselves es
 
-has_more : (fs es : List Equation) → Has es → Has (fs ++ es)
-has_more fs es h = record { binders = h.binders; left = h.left; right = h.right; listed = in_right (between h.binders h.left h.right) fs es h.listed; differs = h.differs }
+themselves_join : (es fs : List TypeEntry) → AreThemselves es → AreThemselves fs → AreThemselves (es ++ fs)
+themselves_join [] fs a b = b
+themselves_join (e ∷ es) fs a b = (a.0, themselves_join es fs a.1 b)
 
-abbrev Clashing : List Equation → Type 0
-Clashing es = clashes es ≡ true
+mutual
+  themselves_are : (T : Ty) → AreThemselves (themselves T)
+  themselves_are (TyCon c Ts) = all_themselves_are Ts
+  themselves_are (TyFixed a) = tt
+  themselves_are (TyUnknown x i) = (refl, tt)
 
-goes : (es : List Equation) (r : Step (List Equation) Bool) → clash_step es ≡ r → ClashGoes es r → (r ≡ Done true) ⊎ ((fs : List Equation) × ((r ≡ Lighter fs) × (weight fs < weight es → Clashing fs))) → Clashing es
-goes es r q g (inl e) = clashes-done es true (q ∙ e)
-goes es r q g (inr f) = clashes-lighter es f.0 (q ∙ f.1.0) ∙ f.1.1 (lighter r f.0 f.1.0 g)
+  all_themselves_are : (Ts : Tys) → AreThemselves (all_themselves Ts)
+  all_themselves_are NoTys = tt
+  all_themselves_are (MoreTys T Ts) = themselves_join (themselves T) (all_themselves Ts) (themselves_are T) (all_themselves_are Ts)
+
+-- one of them is found, or the other
+found_right : (x : List ℕ) (i : ℕ) (es fs : List TypeEntry) → is_some (find_type x i fs) ≡ true → is_some (find_type x i (es ++ fs)) ≡ true
+found_right x i [] fs h = h
+found_right x i (e ∷ es) fs h = at (name_eq x e.name && nat_eq i e.number) (found_right x i es fs h)
   where
-    lighter : (r : Step (List Equation) Bool) (fs : List Equation) → r ≡ Lighter fs → ClashGoes es r → weight fs < weight es
-    lighter (Done b) fs e g = absurd (cc)
-    lighter (Solved gs) fs e g = absurd (cc)
-    lighter (Lighter gs) fs e g = let z : gs ≡ fs = cc in let w = ap weight z in omega (arith, w, g)
+    at : (b : Bool) → is_some (find_type x i (es ++ fs)) ≡ true → is_some (cond b (Some e.typ) (find_type x i (es ++ fs))) ≡ true
+    at true k = refl
+    at false k = k
 
-step_is : (e : Equation) (es : List Equation) → clash_step (e ∷ es) ≡ clash_step_at (parts_at e.binders e.left e.right) es
-unfolding clash_step
-step_is e es = refl
-
-abbrev Next : List Equation → Step (List Equation) Bool → Type 0
-Next es r = (r ≡ Done true) ⊎ ((fs : List Equation) × ((r ≡ Lighter fs) × (weight fs < weight es → Clashing fs)))
-
--- an equation is taken, and one that differs is left
-other_step : (k : ℕ) (e : Equation) (es : List Equation) → ((fs : List Equation) → weight fs ≤ k → Has fs → Clashing fs) → weight (e ∷ es) ≤ suc k → Has es → (p : Parts) → Next (e ∷ es) (clash_step_at p es)
-other_step k e es i l h Flexible = inr (es, (refl, λ w. i es (omega arith) h))
-other_step k e es i l h Clash = inl refl
-other_step k e es i l h (Into ps) = inr (ps ++ es, (refl, λ w. i (ps ++ es) (omega arith) (has_more ps es h)))
-other_step k e es i l h (Heads S T ps) = at (is_some (unify_typs ((S, T) ∷ [])))
+found_left : (x : List ℕ) (i : ℕ) (es fs : List TypeEntry) → is_some (find_type x i es) ≡ true → is_some (find_type x i (es ++ fs)) ≡ true
+found_left x i [] fs h = absurd (cc)
+found_left x i (e ∷ es) fs h = at (name_eq x e.name && nat_eq i e.number) h (λ k. found_left x i es fs k)
   where
-    at : (b : Bool) → Next (e ∷ es) (cond b (Lighter (ps ++ es)) (Done true))
-    at true = inr (ps ++ es, (refl, λ w. i (ps ++ es) (omega arith) (has_more ps es h)))
-    at false = inl refl
+    at : (b : Bool) → is_some (cond b (Some e.typ) (find_type x i es)) ≡ true → (is_some (find_type x i es) ≡ true → is_some (find_type x i (es ++ fs)) ≡ true) → is_some (cond b (Some e.typ) (find_type x i (es ++ fs))) ≡ true
+    at true k g = refl
+    at false k g = g k
 
--- the equation that is taken differs
-this_step : (k : ℕ) (bs : List Variable) (p t : Tm) (es : List Equation) → ((fs : List Equation) → weight fs ≤ k → Has fs → Clashing fs) → weight (between bs p t ∷ es) ≤ suc k → Differs p t → Next (between bs p t ∷ es) (clash_step_at (parts_at bs p t) es)
-this_step k bs p t es i l (at_heads c) = inl (ap (λ v. clash_step_at v es) (c bs))
-this_step k bs p t es i l (at_args q u f d) = back_step (parts_at bs p t) x.parts (at (is_some (unify_typs ((x.left, x.right) ∷ []))))
+mutual
+  themselves_cover : (x : List ℕ) (i : ℕ) (T : Ty) → ty_has x i T ≡ true → is_some (find_type x i (themselves T)) ≡ true
+  themselves_cover x i (TyCon c Ts) h = all_themselves_cover x i Ts h
+  themselves_cover x i (TyFixed a) h = absurd (cc)
+  themselves_cover x i (TyUnknown y j) h =
+      ap (λ b. is_some (cond b (Some (TyUnknown y j)) None)) (key_turned y j x i h)
+
+  all_themselves_cover : (x : List ℕ) (i : ℕ) (Ts : Tys) → tys_have x i Ts ≡ true → is_some (find_type x i (all_themselves Ts)) ≡ true
+  all_themselves_cover x i NoTys h = absurd (cc)
+  all_themselves_cover x i (MoreTys T Ts) h = at (either_true (ty_has x i T) (tys_have x i Ts) h) (λ k. themselves_cover x i T k) (λ k. all_themselves_cover x i Ts k)
+    where
+      at : (ty_has x i T ≡ true) ⊎ (tys_have x i Ts ≡ true) → (ty_has x i T ≡ true → is_some (find_type x i (themselves T)) ≡ true) → (tys_have x i Ts ≡ true → is_some (find_type x i (all_themselves Ts)) ≡ true) → is_some (find_type x i (themselves T ++ all_themselves Ts)) ≡ true
+      at (inl k) f g = found_left x i (themselves T) (all_themselves Ts) (f k)
+      at (inr k) f g = found_right x i (themselves T) (all_themselves Ts) (g k)
+
+-- what stands for itself changes nothing
+found_same : (x : List ℕ) (i : ℕ) (es fs : List TypeEntry) → AreThemselves fs → unwrap_or (find_type x i (es ++ fs)) (TyUnknown x i) ≡ unwrap_or (find_type x i es) (TyUnknown x i)
+found_same x i [] [] a = refl
+found_same x i [] (f ∷ fs) a = at (name_eq x f.name && nat_eq i f.number) refl (found_same x i [] fs a.1)
   where
-    x : Equates bs p t q u
-    x = f bs
-
-    has : Has (x.equations ++ es)
-    has = record { binders = bs; left = q; right = u; listed = in_left (between bs q u) x.equations es x.listed; differs = d }
-
-    at : (b : Bool) → Next (between bs p t ∷ es) (cond b (Lighter (x.equations ++ es)) (Done true))
-    at true = inr (x.equations ++ es, (refl, λ w. i (x.equations ++ es) (omega arith) has))
-    at false = inl refl
-
-    back_step : (v : Parts) → v ≡ Heads x.left x.right x.equations → Next (between bs p t ∷ es) (clash_step_at (Heads x.left x.right x.equations) es) → Next (between bs p t ∷ es) (clash_step_at v es)
-    back_step v e n = rw e n
-
-clashing : (k : ℕ) (es : List Equation) → weight es ≤ k → Has es → Clashing es
-clashing k [] l h = absurd h.listed
-clashing zero (e ∷ es) l h = absurd (omega arith)
-clashing (suc k) (e ∷ es) l h = goes (e ∷ es) (clash_step (e ∷ es)) refl (clash_goes (e ∷ es)) (from_step (which h.listed (λ fs m g. clashing k fs m g)))
+    at : (b : Bool) → (name_eq x f.name && nat_eq i f.number) ≡ b → unwrap_or (find_type x i fs) (TyUnknown x i) ≡ TyUnknown x i → unwrap_or (cond b (Some f.typ) (find_type x i fs)) (TyUnknown x i) ≡ TyUnknown x i
+    at true q e = let k = key_true x i f.name f.number q in a.0 ∙ ap (λ n. TyUnknown n f.number) (sym k.0) ∙ ap (λ n. TyUnknown x n) (sym k.1)
+    at false q e = e
+found_same x i (e ∷ es) fs a = at (name_eq x e.name && nat_eq i e.number) (found_same x i es fs a)
   where
-    from_step : Next (e ∷ es) (clash_step_at (parts_at e.binders e.left e.right) es) → Next (e ∷ es) (clash_step (e ∷ es))
-    from_step n = rw (step_is e es) n
+    at : (b : Bool) → unwrap_or (find_type x i (es ++ fs)) (TyUnknown x i) ≡ unwrap_or (find_type x i es) (TyUnknown x i) → unwrap_or (cond b (Some e.typ) (find_type x i (es ++ fs))) (TyUnknown x i) ≡ unwrap_or (cond b (Some e.typ) (find_type x i es)) (TyUnknown x i)
+    at true k = refl
+    at false k = k
 
-    which : In (between h.binders h.left h.right) (e ∷ es) → ((fs : List Equation) → weight fs ≤ k → Has fs → Clashing fs) → Next (e ∷ es) (clash_step_at (parts_at e.binders e.left e.right) es)
-    which (inl q) i =
-        let z : h.left ≡ e.left = ap (λ v. v.left) q in
-        let y : h.right ≡ e.right = ap (λ v. v.right) q in
-        this_step k e.binders e.left e.right es i l (same_terms h.left h.right e.left e.right z y h.differs)
-      where
-        same_terms : (p t q u : Tm) → p ≡ q → t ≡ u → Differs p t → Differs q u
-        same_terms p t q u a b d = rw (← a, ← b) d
-    which (inr q) i = other_step k e es i l (record { binders = h.binders; left = h.left; right = h.right; listed = q; differs = h.differs }) (parts_at e.binders e.left e.right)
+mutual
+  inst_with_themselves : (es fs : List TypeEntry) → AreThemselves fs → (T : Ty) → inst_ty (es ++ fs) T ≡ inst_ty es T
+  inst_with_themselves es fs a (TyCon c Ts) = ap (TyCon c) (insts_with_themselves es fs a Ts)
+  inst_with_themselves es fs a (TyFixed x) = refl
+  inst_with_themselves es fs a (TyUnknown x i) = found_same x i es fs a
 
--- an equation of two terms that differ clashes, whatever stands beside it
-pub differs_clashes : (bs : List Variable) (p t : Tm) (es : List Equation) → In (between bs p t) es → Differs p t → clashes es ≡ true
-differs_clashes bs p t es h d = clashing (weight es) es (omega arith) (record { binders = bs; left = p; right = t; listed = h; differs = d })
+  insts_with_themselves : (es fs : List TypeEntry) → AreThemselves fs → (Ts : Tys) → inst_tys (es ++ fs) Ts ≡ inst_tys es Ts
+  insts_with_themselves es fs a NoTys = refl
+  insts_with_themselves es fs a (MoreTys T Ts) = ap (λ U. MoreTys U (inst_tys (es ++ fs) Ts)) (inst_with_themselves es fs a T) ∙ ap (λ Us. MoreTys (inst_ty es T) Us) (insts_with_themselves es fs a Ts)
+
+abbrev nothing : Instance
+nothing = record { types = []; terms = [] }
+
+types_decided : (fixed : Bool) (S T : Ty) → TypesAgree fixed S T ⊎ (TypesAgree fixed S T → ⊥)
+types_decided false S T = at (unify_typs ((S, T) ∷ [])) refl
+  where
+    at : (o : Option (List TypeEntry)) → unify_typs ((S, T) ∷ []) ≡ o → TypesAgree false S T ⊎ (TypesAgree false S T → ⊥)
+    at (Some r) e = inl (r, (types_most_general ((S, T) ∷ []) r e).unifies.0)
+    at None e = inr (λ a. types_no_unifier ((S, T) ∷ []) e a.0 (a.1, tt))
+types_decided true S T = at (ty_matched nothing S T) refl
+  where
+    never : ty_matched nothing S T ≡ None → TypesAgree true S T → ⊥
+    never e a =
+        let all = a.0 ++ themselves S in
+        let within : TypesWithin [] all = record { keeps = λ x i U h. absurd (cc) } in
+        let found = ty_completes S T nothing all within (λ x i h. found_right x i a.0 (themselves S) (themselves_cover x i S h)) (inst_with_themselves a.0 (themselves S) (themselves_are S) S ∙ a.1) in
+        let z : Some found.0 ≡ None = sym found.1 ∙ e in
+        absurd (cc)
+
+    at : (o : Option Instance) → ty_matched nothing S T ≡ o → TypesAgree true S T ⊎ (TypesAgree true S T → ⊥)
+    at (Some r) e = inl (r.types, (ty_finds S T nothing r e).fit.gives r.types (types_within_self r.types))
+    at None e = inr (never e)
 
 -- ---- heads
-abbrev pub NotAbs : Tm → Type 0
-NotAbs (Abs x T b) = ⊥
-NotAbs t = Unit {0}
-
-rigid_parts : (bs : List Variable) (p t : Tm) → NotAbs p → NotAbs t → parts_at bs p t ≡ meet bs (head_of p) (args_of p) (head_of t) (args_of t)
-unfolding parts_at
-rigid_parts bs (Const c T) (Const c' T') h k = refl
-rigid_parts bs (Const c T) (Free x' T') h k = refl
-rigid_parts bs (Const c T) (Unknown x' i' T') h k = refl
-rigid_parts bs (Const c T) (Bound i') h k = refl
-rigid_parts bs (Const c T) (App f' a') h k = refl
-rigid_parts bs (Const c T) (Abs y' S' b') h k = absurd k
-rigid_parts bs (Free x T) (Const c' T') h k = refl
-rigid_parts bs (Free x T) (Free x' T') h k = refl
-rigid_parts bs (Free x T) (Unknown x' i' T') h k = refl
-rigid_parts bs (Free x T) (Bound i') h k = refl
-rigid_parts bs (Free x T) (App f' a') h k = refl
-rigid_parts bs (Free x T) (Abs y' S' b') h k = absurd k
-rigid_parts bs (Unknown x i T) (Const c' T') h k = refl
-rigid_parts bs (Unknown x i T) (Free x' T') h k = refl
-rigid_parts bs (Unknown x i T) (Unknown x' i' T') h k = refl
-rigid_parts bs (Unknown x i T) (Bound i') h k = refl
-rigid_parts bs (Unknown x i T) (App f' a') h k = refl
-rigid_parts bs (Unknown x i T) (Abs y' S' b') h k = absurd k
-rigid_parts bs (Bound i) (Const c' T') h k = refl
-rigid_parts bs (Bound i) (Free x' T') h k = refl
-rigid_parts bs (Bound i) (Unknown x' i' T') h k = refl
-rigid_parts bs (Bound i) (Bound i') h k = refl
-rigid_parts bs (Bound i) (App f' a') h k = refl
-rigid_parts bs (Bound i) (Abs y' S' b') h k = absurd k
-rigid_parts bs (App f a) (Const c' T') h k = refl
-rigid_parts bs (App f a) (Free x' T') h k = refl
-rigid_parts bs (App f a) (Unknown x' i' T') h k = refl
-rigid_parts bs (App f a) (Bound i') h k = refl
-rigid_parts bs (App f a) (App f' a') h k = refl
-rigid_parts bs (App f a) (Abs y' S' b') h k = absurd k
-rigid_parts bs (Abs y S b) t h k = absurd h
+one_more : (n : ℕ) (f a : Tm) → n + 1 + length (args_of f) ≡ n + length (args_of f ++ a ∷ [])
+one_more n f a = let e = length-append (args_of f) (a ∷ []) in omega (arith, e)
 
 pub data Rigid (n : ℕ) (t : Tm) : Type 0 where
-  is_const : (c : List ℕ) (T : Ty) → head_of t ≡ Const c T → symbol_on n t ≡ Constant c (n + length (args_of t)) → NotAbs t → Rigid n t
-  is_free : (x : List ℕ) (T : Ty) → head_of t ≡ Free x T → symbol_on n t ≡ Variable' x (n + length (args_of t)) → NotAbs t → Rigid n t
+  is_const : (c : List ℕ) (T : Ty) → head_of t ≡ Const c T → symbol_on n t ≡ Constant c (n + length (args_of t)) → IsHead t → Rigid n t
+  is_free : (x : List ℕ) (T : Ty) → head_of t ≡ Free x T → symbol_on n t ≡ Variable' x (n + length (args_of t)) → IsHead t → Rigid n t
 
 pub kind_of : (n : ℕ) (t : Tm) → (symbol_on n t ≡ Star) ⊎ Rigid n t
 kind_of n (Const c T) = let e : n ≡ n + 0 = omega arith in inr (is_const c T refl (ap (λ m. Constant c m) e) tt)
@@ -172,22 +154,135 @@ kind_of n (Bound i) = inl refl
 kind_of n (Abs x T b) = inl refl
 kind_of n (App f a) = at (kind_of (n + 1) f)
   where
-    count : n + 1 + length (args_of f) ≡ n + length (args_of f ++ a ∷ [])
-    count = let e = length-append (args_of f) (a ∷ []) in omega (arith, e)
-
     at : (symbol_on (n + 1) f ≡ Star) ⊎ Rigid (n + 1) f → (symbol_on n (App f a) ≡ Star) ⊎ Rigid n (App f a)
     at (inl e) = inl e
-    at (inr (is_const c T h s k)) = inr (is_const c T h (s ∙ ap (λ m. Constant c m) count) tt)
-    at (inr (is_free x T h s k)) = inr (is_free x T h (s ∙ ap (λ m. Variable' x m) count) tt)
+    at (inr (is_const c T h s k)) = inr (is_const c T h (s ∙ ap (λ m. Constant c m) (one_more n f a)) tt)
+    at (inr (is_free x T h s k)) = inr (is_free x T h (s ∙ ap (λ m. Variable' x m) (one_more n f a)) tt)
 
--- a term with the symbol star passes over mode subword
-star_passes : (n : ℕ) (t : Tm) → symbol_on n t ≡ Star → passes Unifiable t ≡ true
-star_passes n (Const c T) h = absurd (cc)
-star_passes n (Free x T) h = absurd (cc)
-star_passes n (Unknown x i T) h = refl
-star_passes n (Bound i) h = refl
-star_passes n (Abs x T b) h = refl
-star_passes n (App f a) h = star_passes (n + 1) f h
+-- the symbol of a term by its head
+const_symbol : (n : ℕ) (t : Tm) (d : List ℕ) (T : Ty) → head_of t ≡ Const d T → symbol_on n t ≡ Constant d (n + length (args_of t))
+const_symbol n (Const c U) d T h = let e : n ≡ n + 0 = omega arith in let z : c ≡ d = cc in ap (λ v. Constant v n) z ∙ ap (λ m. Constant d m) e
+const_symbol n (Free x U) d T h = absurd (cc)
+const_symbol n (Unknown x i U) d T h = absurd (cc)
+const_symbol n (Bound i) d T h = absurd (cc)
+const_symbol n (Abs x U b) d T h = absurd (cc)
+const_symbol n (App f a) d T h = const_symbol (n + 1) f d T h ∙ ap (λ m. Constant d m) (one_more n f a)
+
+free_symbol : (n : ℕ) (t : Tm) (d : List ℕ) (T : Ty) → head_of t ≡ Free d T → symbol_on n t ≡ Variable' d (n + length (args_of t))
+free_symbol n (Free c U) d T h = let e : n ≡ n + 0 = omega arith in let z : c ≡ d = cc in ap (λ v. Variable' v n) z ∙ ap (λ m. Variable' d m) e
+free_symbol n (Const x U) d T h = absurd (cc)
+free_symbol n (Unknown x i U) d T h = absurd (cc)
+free_symbol n (Bound i) d T h = absurd (cc)
+free_symbol n (Abs x U b) d T h = absurd (cc)
+free_symbol n (App f a) d T h = free_symbol (n + 1) f d T h ∙ ap (λ m. Variable' d m) (one_more n f a)
+
+-- names and types, whether they agree
+named_decided : (fixed : Bool) (c d : List ℕ) (S T : Ty) → ((c ≡ d) × TypesAgree fixed S T) ⊎ ((c ≡ d) × TypesAgree fixed S T → ⊥)
+named_decided fixed c d S T = at (name_eq c d) refl (types_decided fixed S T)
+  where
+    at : (b : Bool) → name_eq c d ≡ b → TypesAgree fixed S T ⊎ (TypesAgree fixed S T → ⊥) → ((c ≡ d) × TypesAgree fixed S T) ⊎ ((c ≡ d) × TypesAgree fixed S T → ⊥)
+    at true e (inl a) = inl (name_true c d e, a)
+    at true e (inr n) = inr (λ p. n p.1)
+    at false e o = inr (λ p. let z : name_eq c d ≡ true = subst (λ v. name_eq c v ≡ true) p.0 (name_self c) in absurd (cc))
+
+const_decided : (fixed : Bool) (c : List ℕ) (S : Ty) (g : Tm) → HeadsAgree fixed (Const c S) g ⊎ (HeadsAgree fixed (Const c S) g → ⊥)
+const_decided fixed c S (Const d T) = named_decided fixed c d S T
+const_decided fixed c S (Free d T) = inr (λ a. a)
+const_decided fixed c S (Unknown d i T) = inr (λ a. a)
+const_decided fixed c S (Bound i) = inr (λ a. a)
+const_decided fixed c S (Abs d T b) = inr (λ a. a)
+const_decided fixed c S (App f a) = inr (λ a. a)
+
+free_decided : (fixed : Bool) (c : List ℕ) (S : Ty) (g : Tm) → HeadsAgree fixed (Free c S) g ⊎ (HeadsAgree fixed (Free c S) g → ⊥)
+free_decided fixed c S (Free d T) = named_decided fixed c d S T
+free_decided fixed c S (Const d T) = inr (λ a. a)
+free_decided fixed c S (Unknown d i T) = inr (λ a. a)
+free_decided fixed c S (Bound i) = inr (λ a. a)
+free_decided fixed c S (Abs d T b) = inr (λ a. a)
+free_decided fixed c S (App f a) = inr (λ a. a)
+
+-- the heads agree, with as many arguments, or the terms clash
+data Meets (fixed : Bool) (p t : Tm) : Type 0 where
+  agree : HeadsAgree fixed (head_of p) (head_of t) → length (args_of p) ≡ length (args_of t) → symbol_eq (symbol_of p) (symbol_of t) ≡ true → Meets fixed p t
+  part : Clash fixed p t → Meets fixed p t
+
+numbers_agree : (m n : ℕ) → nat_eq m n ≡ true → m ≡ n
+numbers_agree m n h = grind (arith, nat_tests)
+
+numbers_differ : (m n : ℕ) → nat_eq m n ≡ false → m ≡ n → ⊥
+numbers_differ m n h e = grind (arith, nat_tests)
+
+same_key : (c d : List ℕ) (m n : ℕ) → c ≡ d → m ≡ n → (name_eq c d && nat_eq (0 + m) (0 + n)) ≡ true
+same_key c d m n e q = ap (λ v. name_eq c v && nat_eq (0 + m) (0 + n)) (sym e) ∙ ap (λ b. b && nat_eq (0 + m) (0 + n)) (name_self c) ∙ ap (λ k. nat_eq (0 + m) (0 + k)) (sym q) ∙ number_self (0 + m)
+
+meets : (fixed : Bool) (p t : Tm) → AreRigid fixed p t → Rigid 0 p → Meets fixed p t
+meets fixed p t r (is_const c S h s k) = at (const_decided fixed c S (head_of t))
+  where
+    same : (g : Tm) → head_of t ≡ g → HeadsAgree fixed (Const c S) g → length (args_of p) ≡ length (args_of t) → symbol_eq (symbol_of p) (symbol_of t) ≡ true
+    same (Const d T) e a l = ap (λ v. symbol_eq v (symbol_of t)) s ∙ ap (λ v. symbol_eq (Constant c (0 + length (args_of p))) v) (const_symbol 0 t d T e) ∙ same_key c d (length (args_of p)) (length (args_of t)) a.0 l
+    same (Free d T) e a l = absurd a
+    same (Unknown d i T) e a l = absurd a
+    same (Bound i) e a l = absurd a
+    same (Abs d T b) e a l = absurd a
+    same (App f b) e a l = absurd a
+
+    counted : HeadsAgree fixed (Const c S) (head_of t) → (b : Bool) → nat_eq (length (args_of p)) (length (args_of t)) ≡ b → Meets fixed p t
+    counted a false q = part (numbers r (numbers_differ (length (args_of p)) (length (args_of t)) q))
+    counted a true q = let l = numbers_agree (length (args_of p)) (length (args_of t)) q in agree (subst (λ v. HeadsAgree fixed v (head_of t)) (sym h) a) l (same (head_of t) refl a l)
+
+    at : HeadsAgree fixed (Const c S) (head_of t) ⊎ (HeadsAgree fixed (Const c S) (head_of t) → ⊥) → Meets fixed p t
+    at (inr n) = part (heads r (λ a. n (subst (λ v. HeadsAgree fixed v (head_of t)) h a)))
+    at (inl a) = counted a (nat_eq (length (args_of p)) (length (args_of t))) refl
+meets fixed p t r (is_free c S h s k) = at (free_decided fixed c S (head_of t))
+  where
+    same : (g : Tm) → head_of t ≡ g → HeadsAgree fixed (Free c S) g → length (args_of p) ≡ length (args_of t) → symbol_eq (symbol_of p) (symbol_of t) ≡ true
+    same (Free d T) e a l = ap (λ v. symbol_eq v (symbol_of t)) s ∙ ap (λ v. symbol_eq (Variable' c (0 + length (args_of p))) v) (free_symbol 0 t d T e) ∙ same_key c d (length (args_of p)) (length (args_of t)) a.0 l
+    same (Const d T) e a l = absurd a
+    same (Unknown d i T) e a l = absurd a
+    same (Bound i) e a l = absurd a
+    same (Abs d T b) e a l = absurd a
+    same (App f b) e a l = absurd a
+
+    counted : HeadsAgree fixed (Free c S) (head_of t) → (b : Bool) → nat_eq (length (args_of p)) (length (args_of t)) ≡ b → Meets fixed p t
+    counted a false q = part (numbers r (numbers_differ (length (args_of p)) (length (args_of t)) q))
+    counted a true q = let l = numbers_agree (length (args_of p)) (length (args_of t)) q in agree (subst (λ v. HeadsAgree fixed v (head_of t)) (sym h) a) l (same (head_of t) refl a l)
+
+    at : HeadsAgree fixed (Free c S) (head_of t) ⊎ (HeadsAgree fixed (Free c S) (head_of t) → ⊥) → Meets fixed p t
+    at (inr n) = part (heads r (λ a. n (subst (λ v. HeadsAgree fixed v (head_of t)) h a)))
+    at (inl a) = counted a (nat_eq (length (args_of p)) (length (args_of t))) refl
+
+-- ---- rigid terms
+flexible_head : (t : Tm) → is_flexible t ≡ is_flexible (head_of t)
+flexible_head (Const c T) = refl
+flexible_head (Free x T) = refl
+flexible_head (Unknown x i T) = refl
+flexible_head (Bound i) = refl
+flexible_head (Abs x T b) = refl
+flexible_head (App f a) = flexible_head f
+
+unpassed_head : (mode : Mode) (t : Tm) → passes mode t ≡ false → IsHead t
+unpassed_head mode (Const c T) h = tt
+unpassed_head mode (Free x T) h = tt
+unpassed_head mode (Unknown x i T) h = tt
+unpassed_head mode (Bound i) h = tt
+unpassed_head mode (Abs x T b) h = absurd (cc)
+unpassed_head mode (App f a) h = tt
+
+unpassed_rigid : (t : Tm) → passes Unifiable t ≡ false → is_flexible t ≡ false
+unpassed_rigid (Const c T) h = refl
+unpassed_rigid (Free x T) h = refl
+unpassed_rigid (Unknown x i T) h = absurd (cc)
+unpassed_rigid (Bound i) h = refl
+unpassed_rigid (Abs x T b) h = refl
+unpassed_rigid (App f a) h = unpassed_rigid f h
+
+unpassed_right : (mode : Mode) (t : Tm) → passes mode t ≡ false → is_fixed mode ≡ false → is_flexible t ≡ false
+unpassed_right Unifiable t h e = unpassed_rigid t h
+unpassed_right Matching t h e = absurd (cc)
+
+are_rigid : (mode : Mode) (p t : Tm) → Rigid 0 p → passes mode t ≡ false → AreRigid (is_fixed mode) p t
+are_rigid mode p t (is_const c S h s k) b = record { left_head = k; right_head = unpassed_head mode t b; left = flexible_head p ∙ ap is_flexible h; right = unpassed_right mode t b }
+are_rigid mode p t (is_free c S h s k) b = record { left_head = k; right_head = unpassed_head mode t b; left = flexible_head p ∙ ap is_flexible h; right = unpassed_right mode t b }
 
 -- ---- words of arguments
 abbrev pub words_of : List Tm → List Symbol
@@ -246,98 +341,7 @@ over_reads mode (suc k) (p ∷ ps) l is w =
     at (as_star e) f = ap (λ v. reads mode (Over ∷ (overs (length ps) ++ is)) (v ++ (words_of ps ++ w))) e
     at (as_symbol s q d n e r) f = ap (λ v. reads mode (Over ∷ (overs (length ps) ++ is)) (v ++ (words_of ps ++ w))) e ∙ ap (λ m. reads mode (overs m ++ (overs (length ps) ++ is)) (words_of (args_of p) ++ (words_of ps ++ w))) n ∙ f (words_of ps ++ w)
 
--- ---- reading along terms
--- two terms at one place of two lists
-pub data AtPlace (q u : Tm) : List Tm → List Tm → Type 0 where
-  first : {ps ts : List Tm} → AtPlace q u (q ∷ ps) (u ∷ ts)
-  further : {ps ts : List Tm} (p t : Tm) → AtPlace q u ps ts → AtPlace q u (p ∷ ps) (t ∷ ts)
-
-record Paired (bs : List Variable) (ps ts : List Tm) : Type 0 where
-  equations : List Equation
-  is : paired bs ps ts ≡ Some equations
-  all : (q u : Tm) → AtPlace q u ps ts → In (between bs q u) equations
-
-paired_all : (bs : List Variable) (ps ts : List Tm) → length ps ≡ length ts → Paired bs ps ts
-paired_all bs [] [] l = record { equations = []; is = refl; all = none }
-  where
-    none : (q u : Tm) → AtPlace q u [] [] → In (between bs q u) []
-    none q u h = elim h [ ]
-paired_all bs [] (t ∷ ts) l = absurd (omega arith)
-paired_all bs (p ∷ ps) [] l = absurd (omega arith)
-paired_all bs (p ∷ ps) (t ∷ ts) l = more (paired_all bs ps ts (omega arith))
-  where
-    more : Paired bs ps ts → Paired bs (p ∷ ps) (t ∷ ts)
-    more x = record { equations = between bs p t ∷ x.equations; is = ap (λ o. option_map (λ es. between bs p t ∷ es) o) x.is; all = all x }
-      where
-        all : (x : Paired bs ps ts) (q u : Tm) → AtPlace q u (p ∷ ps) (t ∷ ts) → In (between bs q u) (between bs p t ∷ x.equations)
-        all x _ _ first = inl refl
-        all x q u (further _ _ h) = inr (x.all q u h)
-
-unpaired : (bs : List Variable) (ps ts : List Tm) → (length ps ≡ length ts → ⊥) → paired bs ps ts ≡ None
-unpaired bs [] [] d = absurd (d refl)
-unpaired bs [] (t ∷ ts) d = refl
-unpaired bs (p ∷ ps) [] d = refl
-unpaired bs (p ∷ ps) (t ∷ ts) d = ap (λ o. option_map (λ es. between bs p t ∷ es) o) (unpaired bs ps ts (λ e. d (ap suc e)))
-
--- the words of the terms can be read along the others, or two of them differ
-data Reads (ps ts : List Tm) : Type 0 where
-  reads_on : ((is : List Item) (w : List Symbol) → reads Unifiable (alongs ts ++ is) (words_of ps ++ w) ≡ reads Unifiable is w) → Reads ps ts
-  differ : (q u : Tm) → AtPlace q u ps ts → Differs q u → Reads ps ts
-
-data ReadsOne (p t : Tm) : Type 0 where
-  reads_on_one : ((is : List Item) (w : List Symbol) → reads Unifiable (Along t ∷ is) (word p ++ w) ≡ reads Unifiable is w) → ReadsOne p t
-  differs : Differs p t → ReadsOne p t
-
--- the heads agree, with as many arguments, or the equation is a clash
-data Meets (p t : Tm) : Type 0 where
-  agree : length (args_of p) ≡ length (args_of t) → symbol_eq (symbol_of p) (symbol_of t) ≡ true → ((bs : List Variable) → (S : Ty) × ((T : Ty) × (parts_at bs p t ≡ typed_parts S T (paired bs (args_of p) (args_of t))))) → Meets p t
-  part : ((bs : List Variable) → parts_at bs p t ≡ Clash) → Meets p t
-
-met : (p t h g : Tm) → head_of p ≡ h → head_of t ≡ g → NotAbs p → NotAbs t → (bs : List Variable) → parts_at bs p t ≡ meet bs h (args_of p) g (args_of t)
-met p t h g e q k l bs = rigid_parts bs p t k l ∙ ap (λ v. meet bs v (args_of p) (head_of t) (args_of t)) e ∙ ap (λ v. meet bs h (args_of p) v (args_of t)) q
-
-pub numbers_agree : (m n : ℕ) → nat_eq m n ≡ true → m ≡ n
-numbers_agree m n h = grind (arith, nat_tests)
-
-numbers_differ : (m n : ℕ) → nat_eq m n ≡ false → m ≡ n → ⊥
-numbers_differ m n h e = grind (arith, nat_tests)
-
-pub same_number : (m n : ℕ) → m ≡ n → nat_eq (0 + m) (0 + n) ≡ true
-same_number m n e = grind (arith, nat_tests)
-
-meets : (p t : Tm) → Rigid 0 p → Rigid 0 t → Meets p t
-meets p t (is_const c S h s k) (is_free d T h' s' k') = part (met p t (Const c S) (Free d T) h h' k k')
-meets p t (is_free c S h s k) (is_const d T h' s' k') = part (met p t (Free c S) (Const d T) h h' k k')
-meets p t (is_const c S h s k) (is_const d T h' s' k') = at (name_eq c d) refl (nat_eq (length (args_of p)) (length (args_of t))) refl
-  where
-    parts : (x : Bool) → name_eq c d ≡ x → (bs : List Variable) → parts_at bs p t ≡ cond x (typed_parts S T (paired bs (args_of p) (args_of t))) Clash
-    parts x e bs = met p t (Const c S) (Const d T) h h' k k' bs ∙ ap (λ b. cond b (typed_parts S T (paired bs (args_of p) (args_of t))) Clash) e
-
-    at : (x : Bool) → name_eq c d ≡ x → (y : Bool) → nat_eq (length (args_of p)) (length (args_of t)) ≡ y → Meets p t
-    at false e y q = part (parts false e)
-    at true e false q = part (λ bs. parts true e bs ∙ ap (λ o. typed_parts S T o) (unpaired bs (args_of p) (args_of t) (numbers_differ _ _ q)))
-    at true e true q =
-        let l = numbers_agree (length (args_of p)) (length (args_of t)) q in
-        agree l (ap (λ v. symbol_eq v (symbol_of t)) s ∙ ap (λ v. symbol_eq (Constant c (0 + length (args_of p))) v) s' ∙ ap (λ b. b && nat_eq (0 + length (args_of p)) (0 + length (args_of t))) e ∙ same_number _ _ l) (λ bs. (S, (T, parts true e bs)))
-meets p t (is_free c S h s k) (is_free d T h' s' k') = at (name_eq c d) refl (nat_eq (length (args_of p)) (length (args_of t))) refl
-  where
-    parts : (x : Bool) → name_eq c d ≡ x → (bs : List Variable) → parts_at bs p t ≡ cond x (typed_parts S T (paired bs (args_of p) (args_of t))) Clash
-    parts x e bs = met p t (Free c S) (Free d T) h h' k k' bs ∙ ap (λ b. cond b (typed_parts S T (paired bs (args_of p) (args_of t))) Clash) e
-
-    at : (x : Bool) → name_eq c d ≡ x → (y : Bool) → nat_eq (length (args_of p)) (length (args_of t)) ≡ y → Meets p t
-    at false e y q = part (parts false e)
-    at true e false q = part (λ bs. parts true e bs ∙ ap (λ o. typed_parts S T o) (unpaired bs (args_of p) (args_of t) (numbers_differ _ _ q)))
-    at true e true q =
-        let l = numbers_agree (length (args_of p)) (length (args_of t)) q in
-        agree l (ap (λ v. symbol_eq v (symbol_of t)) s ∙ ap (λ v. symbol_eq (Variable' c (0 + length (args_of p))) v) s' ∙ ap (λ b. b && nat_eq (0 + length (args_of p)) (0 + length (args_of t))) e ∙ same_number _ _ l) (λ bs. (S, (T, parts true e bs)))
-
--- two arguments that differ make the terms differ
-args_differ : (p t q u : Tm) → length (args_of p) ≡ length (args_of t) → ((bs : List Variable) → (S : Ty) × ((T : Ty) × (parts_at bs p t ≡ typed_parts S T (paired bs (args_of p) (args_of t))))) → AtPlace q u (args_of p) (args_of t) → Differs q u → Differs p t
-args_differ p t q u l f h d = at_args q u (λ bs. equates bs (f bs) (paired_all bs (args_of p) (args_of t) l)) d
-  where
-    equates : (bs : List Variable) → (S : Ty) × ((T : Ty) × (parts_at bs p t ≡ typed_parts S T (paired bs (args_of p) (args_of t)))) → Paired bs (args_of p) (args_of t) → Equates bs p t q u
-    equates bs g x = record { left = g.0; right = g.1.0; equations = x.equations; parts = g.1.1 ∙ ap (λ o. typed_parts g.0 g.1.0 o) x.is; listed = x.all q u h }
-
+-- ---- what follows a symbol
 pub along_same : (t : Tm) (s : Symbol) → (s ≡ Star → ⊥) → symbol_eq s (symbol_of t) ≡ true → along t s ≡ Some (alongs (args_of t))
 along_same t Star d e = absurd (d refl)
 along_same t (Constant c m) d e = ap (λ b. cond b (Some (alongs (args_of t))) None) e
@@ -360,59 +364,61 @@ after_star mode t = at (passes mode t)
 pub after_along : (mode : Mode) (t : Tm) (s : Symbol) → passes mode t ≡ false → after mode (Along t) s ≡ along t s
 after_along mode t s e = ap (λ b. cond b (Some (overs (arity s))) (along t s)) e
 
+-- ---- reading along terms
+-- the words of the terms can be read along the others, or two of them clash
+data Reads (mode : Mode) (ps ts : List Tm) : Type 0 where
+  reads_on : ((is : List Item) (w : List Symbol) → reads mode (alongs ts ++ is) (words_of ps ++ w) ≡ reads mode is w) → Reads mode ps ts
+  clash_at : (i : ℕ) (a b : Tm) → slice_get ps i ≡ Some a → slice_get ts i ≡ Some b → Clash (is_fixed mode) a b → Reads mode ps ts
+
+data ReadsOne (mode : Mode) (p t : Tm) : Type 0 where
+  reads_on_one : ((is : List Item) (w : List Symbol) → reads mode (Along t ∷ is) (word p ++ w) ≡ reads mode is w) → ReadsOne mode p t
+  clash_there : Clash (is_fixed mode) p t → ReadsOne mode p t
+
 -- one term, by its arguments
-read_one : (p t : Tm) → ((length (args_of p) ≡ length (args_of t)) → Reads (args_of p) (args_of t)) → ReadsOne p t
-read_one p t f = at (spelled p)
+read_one : (mode : Mode) (p t : Tm) → ((length (args_of p) ≡ length (args_of t)) → Reads mode (args_of p) (args_of t)) → ReadsOne mode p t
+read_one mode p t f = at (spelled p)
   where
-    star : word p ≡ Star ∷ [] → ReadsOne p t
-    star e = reads_on_one (λ is w. ap (λ v. reads Unifiable (Along t ∷ is) (v ++ w)) e ∙ follows Unifiable t Star [] is w (after_star Unifiable t))
+    star : word p ≡ Star ∷ [] → ReadsOne mode p t
+    star e = reads_on_one (λ is w. ap (λ v. reads mode (Along t ∷ is) (v ++ w)) e ∙ follows mode t Star [] is w (after_star mode t))
 
-    passed : (s : Symbol) → arity s ≡ length (args_of p) → word p ≡ s ∷ words_of (args_of p) → passes Unifiable t ≡ true → ReadsOne p t
-    passed s n e b = reads_on_one (λ is w. ap (λ v. reads Unifiable (Along t ∷ is) (v ++ w)) e ∙ follows Unifiable t s (overs (arity s)) is (words_of (args_of p) ++ w) (after_passed Unifiable t s b) ∙ ap (λ m. reads Unifiable (overs m ++ is) (words_of (args_of p) ++ w)) n ∙ over_reads Unifiable (size_of (args_of p)) (args_of p) (omega arith) is w)
+    passed : (s : Symbol) → arity s ≡ length (args_of p) → word p ≡ s ∷ words_of (args_of p) → passes mode t ≡ true → ReadsOne mode p t
+    passed s n e b = reads_on_one (λ is w. ap (λ v. reads mode (Along t ∷ is) (v ++ w)) e ∙ follows mode t s (overs (arity s)) is (words_of (args_of p) ++ w) (after_passed mode t s b) ∙ ap (λ m. reads mode (overs m ++ is) (words_of (args_of p) ++ w)) n ∙ over_reads mode (size_of (args_of p)) (args_of p) (omega arith) is w)
 
-    args : (s : Symbol) → s ≡ symbol_of p → (s ≡ Star → ⊥) → word p ≡ s ∷ words_of (args_of p) → passes Unifiable t ≡ false → length (args_of p) ≡ length (args_of t) → symbol_eq (symbol_of p) (symbol_of t) ≡ true → ((bs : List Variable) → (S : Ty) × ((T : Ty) × (parts_at bs p t ≡ typed_parts S T (paired bs (args_of p) (args_of t))))) → Reads (args_of p) (args_of t) → ReadsOne p t
-    args s q d e b l x g (reads_on r) = reads_on_one (λ is w. ap (λ v. reads Unifiable (Along t ∷ is) (v ++ w)) e ∙ follows Unifiable t s (alongs (args_of t)) is (words_of (args_of p) ++ w) (after_along Unifiable t s b ∙ along_same t s d (ap (λ v. symbol_eq v (symbol_of t)) q ∙ x)) ∙ r is w)
-    args s q d e b l x g (differ y u h k) = differs (args_differ p t y u l g h k)
+    args : (s : Symbol) → s ≡ symbol_of p → (s ≡ Star → ⊥) → word p ≡ s ∷ words_of (args_of p) → passes mode t ≡ false → AreRigid (is_fixed mode) p t → HeadsAgree (is_fixed mode) (head_of p) (head_of t) → symbol_eq (symbol_of p) (symbol_of t) ≡ true → Reads mode (args_of p) (args_of t) → ReadsOne mode p t
+    args s q d e b r a x (reads_on g) = reads_on_one (λ is w. ap (λ v. reads mode (Along t ∷ is) (v ++ w)) e ∙ follows mode t s (alongs (args_of t)) is (words_of (args_of p) ++ w) (after_along mode t s b ∙ along_same t s d (ap (λ v. symbol_eq v (symbol_of t)) q ∙ x)) ∙ g is w)
+    args s q d e b r a x (clash_at i y u h k c) = clash_there (argument r a i y u h k c)
 
-    meeting : (s : Symbol) → s ≡ symbol_of p → (s ≡ Star → ⊥) → word p ≡ s ∷ words_of (args_of p) → passes Unifiable t ≡ false → Meets p t → ReadsOne p t
-    meeting s q d e b (part c) = differs (at_heads c)
-    meeting s q d e b (agree l x g) = args s q d e b l x g (f l)
+    meeting : (s : Symbol) → s ≡ symbol_of p → (s ≡ Star → ⊥) → word p ≡ s ∷ words_of (args_of p) → passes mode t ≡ false → AreRigid (is_fixed mode) p t → Meets (is_fixed mode) p t → ReadsOne mode p t
+    meeting s q d e b r (part c) = clash_there c
+    meeting s q d e b r (agree a l x) = args s q d e b r a x (f l)
 
-    rigid : (s : Symbol) → s ≡ symbol_of p → (s ≡ Star → ⊥) → word p ≡ s ∷ words_of (args_of p) → Rigid 0 p → passes Unifiable t ≡ false → (symbol_on 0 t ≡ Star) ⊎ Rigid 0 t → ReadsOne p t
-    rigid s q d e r b (inl z) = let y = star_passes 0 t z in absurd (cc)
-    rigid s q d e r b (inr z) = meeting s q d e b (meets p t r z)
-
-    symbol : (s : Symbol) → s ≡ symbol_of p → (s ≡ Star → ⊥) → arity s ≡ length (args_of p) → word p ≡ s ∷ words_of (args_of p) → Rigid 0 p → (b : Bool) → passes Unifiable t ≡ b → ReadsOne p t
+    symbol : (s : Symbol) → s ≡ symbol_of p → (s ≡ Star → ⊥) → arity s ≡ length (args_of p) → word p ≡ s ∷ words_of (args_of p) → Rigid 0 p → (b : Bool) → passes mode t ≡ b → ReadsOne mode p t
     symbol s q d n e r true b = passed s n e b
-    symbol s q d n e r false b = rigid s q d e r b (kind_of 0 t)
+    symbol s q d n e r false b = let g = are_rigid mode p t r b in meeting s q d e b g (meets (is_fixed mode) p t g r)
 
-    at : Spelled p → ReadsOne p t
+    at : Spelled p → ReadsOne mode p t
     at (as_star e) = star e
-    at (as_symbol s q d n e r) = symbol s q d n e r (passes Unifiable t) refl
+    at (as_symbol s q d n e r) = symbol s q d n e r (passes mode t) refl
 
-along_reads : (k : ℕ) (ps ts : List Tm) → size_of ps ≤ k → length ps ≡ length ts → Reads ps ts
-along_reads k [] [] l m = reads_on (λ is w. refl)
-along_reads k [] (t ∷ ts) l m = absurd (omega arith)
-along_reads k (p ∷ ps) [] l m = absurd (omega arith)
-along_reads zero (p ∷ ps) (t ∷ ts) l m = let q = args_size p in absurd (omega (arith, q))
-along_reads (suc k) (p ∷ ps) (t ∷ ts) l m = at (read_one p t (λ n. along_reads k (args_of p) (args_of t) (let q = args_size p in omega (arith, q)) n)) (along_reads k ps ts (let q = args_size p in omega (arith, q)) (omega arith))
+along_reads : (mode : Mode) (k : ℕ) (ps ts : List Tm) → size_of ps ≤ k → length ps ≡ length ts → Reads mode ps ts
+along_reads mode k [] [] l m = reads_on (λ is w. refl)
+along_reads mode k [] (t ∷ ts) l m = absurd (omega arith)
+along_reads mode k (p ∷ ps) [] l m = absurd (omega arith)
+along_reads mode zero (p ∷ ps) (t ∷ ts) l m = let q = args_size p in absurd (omega (arith, q))
+along_reads mode (suc k) (p ∷ ps) (t ∷ ts) l m = at (read_one mode p t (λ n. along_reads mode k (args_of p) (args_of t) (let q = args_size p in omega (arith, q)) n)) (along_reads mode k ps ts (let q = args_size p in omega (arith, q)) (omega arith))
   where
-    at : ReadsOne p t → Reads ps ts → Reads (p ∷ ps) (t ∷ ts)
-    at (differs d) r = differ p t first d
-    at (reads_on_one f) (differ q u h d) = differ q u (further p t h) d
-    at (reads_on_one f) (reads_on g) = reads_on (λ is w. ap (λ v. reads Unifiable (Along t ∷ (alongs ts ++ is)) v) (append_assoc (word p) (words_of ps) w) ∙ f (alongs ts ++ is) (words_of ps ++ w) ∙ g is w)
+    at : ReadsOne mode p t → Reads mode ps ts → Reads mode (p ∷ ps) (t ∷ ts)
+    at (clash_there c) r = clash_at 0 p t refl refl c
+    at (reads_on_one f) (clash_at i a b h k c) = clash_at (suc i) a b h k c
+    at (reads_on_one f) (reads_on g) = reads_on (λ is w. ap (λ v. reads mode (Along t ∷ (alongs ts ++ is)) v) (append_assoc (word p) (words_of ps) w) ∙ f (alongs ts ++ is) (words_of ps ++ w) ∙ g is w)
 
--- a key whose word doesn't agree differs from the term
-pub differs_of : (p t : Tm) → agrees Unifiable t (word p) ≡ false → Differs p t
-differs_of p t h = at (read_one p t (λ n. along_reads (size_of (args_of p)) (args_of p) (args_of t) (omega arith) n))
+-- a key whose word doesn't agree with the term clashes with it
+pub missed_clashes : (mode : Mode) (p t : Tm) → agrees mode t (word p) ≡ false → Clash (is_fixed mode) p t
+missed_clashes mode p t h = at (read_one mode p t (λ n. along_reads mode (size_of (args_of p)) (args_of p) (args_of t) (omega arith) n))
   where
-    at : ReadsOne p t → Differs p t
-    at (differs d) = d
+    at : ReadsOne mode p t → Clash (is_fixed mode) p t
+    at (clash_there c) = c
     at (reads_on_one f) =
-        let e : reads Unifiable (Along t ∷ []) (word p) ≡ Some [] = ap (λ v. reads Unifiable (Along t ∷ []) v) (sym (append-nil (word p))) ∙ f [] [] in
-        let q : agrees Unifiable t (word p) ≡ true = ap (λ o. is_some o) e in
+        let e : reads mode (Along t ∷ []) (word p) ≡ Some [] = ap (λ v. reads mode (Along t ∷ []) v) (sym (append-nil (word p))) ∙ f [] [] in
+        let q : agrees mode t (word p) ≡ true = ap (λ o. is_some o) e in
         absurd (cc)
-
--- a key that `unifiable` doesn't give clashes with the term
-pub not_given_clashes : (bs : List Variable) (p t : Tm) (es : List Equation) → agrees Unifiable t (word p) ≡ false → In (between bs p t) es → clashes es ≡ true
-not_given_clashes bs p t es h i = differs_clashes bs p t es i (differs_of p t h)

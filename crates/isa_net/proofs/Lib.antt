@@ -22,4 +22,4 @@ pub mod Ranked
 pub mod Rooting
 pub mod Sorting
 pub mod Clashing
-pub mod Unmatched
+pub mod Netting

@@ -1,6 +1,7 @@
 -- What a tree of nodes with its root holds: a map from ranks to words.
 use Rattle.std.specs.Prelude.{◌≡◌, ◌↔◌, ℕ, ◌<◌, ◌≤◌, List, [], ◌∷◌, length, Option, Some, None, option_map}
-use Rattle.std.specs.BTreeMap.{BTreeMap, get}
+use Rattle.std.specs.Map.{lookup}
+use Rattle.std.specs.BTreeMap.{is_at}
 use Rattle.slab.specs.Slab as slab
 use Rattle.slab.specs.Slab.{Slab}
 use Rattle.isa_terms.specs.Terms.{Tm}
@@ -63,5 +64,5 @@ abbrev pub GivesFew : Tree → Mode → Tm → ℕ → Type 0
 GivesFew tree mode t visited = (word_at : Rank → Option (List Symbol)) (ws : List (List Symbol)) → Holds tree word_at → ((r : Rank) (w : List Symbol) → word_at r ≡ Some w → In w ws) → visited ≤ agreeing mode (Along t ∷ []) ws
 
 -- the words of a net's keys
-abbrev pub word_in : {V : Type 0} → BTreeMap Rank (Entry V) → Rank → Option (List Symbol)
-word_in net r = option_map (λ e. word e.key) (get rank_cmp net r)
+abbrev pub word_in : {V : Type 0} → List (Rank × Entry V) → Rank → Option (List Symbol)
+word_in net r = option_map (λ e. word e.key) (lookup (is_at (rank_cmp r)) net)
