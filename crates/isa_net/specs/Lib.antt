@@ -1,0 +1,5 @@
+pub mod Symbols
+pub mod Words
+pub mod Count
+pub mod Nets
+pub mod Inside
