@@ -184,7 +184,7 @@ impl Draft {
     }
 
     /// The draft under the instance.
-    fn instance(&self, alloc: Global, inst: &Inst) -> Result<Draft, AllocError>
+    pub(crate) fn instance(&self, alloc: Global, inst: &Inst) -> Result<Draft, AllocError>
         requires { keeps inst.now.types inst.now.terms ≡ true }
         ensures { IfOk result (λ t. t ≡ instanced inst.now self.now) }
     {
