@@ -18,8 +18,8 @@ use crate::refusal::Refusal;
 use isa_goal::State;
 use isa_kernel::{AxiomFail, InferenceError, Theory, TheoryFail, Thm, axiom, prop_type};
 use isa_print::{state_text, theorem_text};
-use isa_texts::{Judgment, Signature, Variables, judged_type, prop_of_text, type_of_text};
 use isa_terms::{Name, Term, Typ, function_type};
+use isa_texts::{Judgment, Signature, Variables, judged_type, prop_of_text, type_of_text};
 use std::alloc::{AllocError, Global};
 use std::marker::Model;
 
