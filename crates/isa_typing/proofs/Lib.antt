@@ -1,0 +1,4 @@
+pub mod Marks
+pub mod Solutions
+pub mod Sound
+pub mod Complete
