@@ -10,6 +10,8 @@ pub mod Measure
 pub mod Assigned
 pub mod Adequacy
 pub mod Loops
+pub mod ClashLaws
+pub mod Liftings
 pub mod Lists
 pub mod NoTypes
 pub mod ClosedTerms
@@ -24,6 +26,7 @@ pub mod PatternMatches
 pub mod PatternComplete
 pub mod MatchAnswers
 pub mod AllMatches
+pub mod StartMatches
 pub mod FlexibleSteps
 pub mod Meaning
 pub mod Backward
@@ -43,3 +46,4 @@ pub mod General
 pub mod Asked
 pub mod YesAnswers
 pub mod Right
+pub mod MatchClashes

@@ -7,6 +7,7 @@ pub mod VariableCodes
 pub mod EquationCodes
 pub mod Spines
 pub mod Unification
+pub mod Clashes
 pub mod Steps
 pub mod StateCodes
 pub mod Late

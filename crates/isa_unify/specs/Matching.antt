@@ -10,6 +10,8 @@ use Rattle.isa_terms.specs.Normal.{IsNormal}
 use Rattle.isa_terms.specs.Pattern.{is_pattern}
 use Rattle.isa_terms.specs.Instance.{Instance, find_type, find_term, inst_ty, instance_of, set_type, set_term}
 use Rattle.isa_terms.specs.Instances.{IsKept}
+use Rattle.isa_terms.specs.declared.inst.TypeEntry.{TypeEntry}
+use Rattle.isa_terms.specs.declared.inst.TermEntry.{TermEntry}
 use Rattle.isa_unify.specs.TypeUnification.{ty_has}
 
 -- what a step makes of what is there
@@ -97,6 +99,31 @@ pub record AllMatch (ps ts : List Tm) (s : Instance) : Type 0 where
   pub are : AreMatched ps ts s
   pub normal : (x : List ℕ) (i : ℕ) (T : Ty) (u : Tm) → find_term x i T s.terms ≡ Some u → IsNormal u
   pub only : (r : Instance) → AreMatched ps ts r → DoesAs s r
+
+-- Each term is normal and has the type of its unknown, and each type unknown of that type has a type.
+abbrev pub AreSettled : List TypeEntry → List TermEntry → Type 0
+AreSettled es [] = Unit {0}
+AreSettled es (f ∷ fs) = (IsNormal f.term × HasType f.term (inst_ty es f.typ) × ((x : List ℕ) (i : ℕ) → ty_has x i f.typ ≡ true → is_some (find_type x i es) ≡ true)) × AreSettled es fs
+
+-- an instance from which matching may go on, as each match is one
+abbrev pub IsSettled : Instance → Type 0
+IsSettled s = AreSettled s.types s.terms
+
+-- r is the instance s with terms and types for just the other unknowns and type unknowns of the patterns, and makes each of
+-- them equal to the term at its place. An unknown that s maps to itself counts as a constant.
+pub record AreMatchedFrom (s : Instance) (ps ts : List Tm) (r : Instance) : Type 0 where
+  pub types_stay : (x : List ℕ) (i : ℕ) (A : Ty) → find_type x i s.types ≡ Some A → find_type x i r.types ≡ Some A
+  pub terms_stay : (x : List ℕ) (i : ℕ) (T : Ty) (u : Tm) → find_term x i T s.terms ≡ Some u → find_term x i T r.terms ≡ Some u
+  pub types : (x : List ℕ) (i : ℕ) → is_some (find_type x i r.types) ≡ (is_some (find_type x i s.types) || have_type_unknown x i ps)
+  pub terms : (x : List ℕ) (i : ℕ) (T : Ty) → is_some (find_term x i T r.terms) ≡ (is_some (find_term x i T s.terms) || have_unknown x i T ps)
+  pub kept : IsKept r.types r.terms
+  pub gives : MakesAll r ps ts
+
+-- r is the one such instance, with terms in normal form, and matching may go on from it
+pub record AllMatchFrom (s : Instance) (ps ts : List Tm) (r : Instance) : Type 0 where
+  pub are : AreMatchedFrom s ps ts r
+  pub settled : IsSettled r
+  pub only : (q : Instance) → AreMatchedFrom s ps ts q → DoesAs r q
 
 -- s and the types that make T to U
 abbrev mutual

@@ -2,6 +2,7 @@
 
 ghost use Rattle.isa_unify.specs.Laws.{UnificationEnds, ClashesEnd};
 ghost use Rattle.isa_unify.specs.UnifyLaw.{NoIsRight, YesIsRight};
+ghost use Rattle.isa_unify.specs.Clashes.{ClashesAreFound, ClashHasNoMatch, LiftedIsLifting, LiftingsClash};
 
 /// The steps of unification end, and the walk that looks for clashes does; no bound in their
 /// definitions is ever met.
@@ -21,4 +22,25 @@ pub fn no_is_right()
 #[tactic(auto, using(crate::proofs::YesAnswers::yes_is_right))]
 pub fn yes_is_right()
     ensures { YesIsRight }
+{}
+
+/// Unification finds a clash exactly where at some place two rigid heads disagree, or have other
+/// numbers of arguments.
+#[tactic(auto, using(crate::proofs::ClashLaws::clashes_are_found))]
+pub fn clashes_are_found()
+    ensures { ClashesAreFound }
+{}
+
+/// A pattern that clashes with a term, whose unknowns count as constants, has no match with it.
+#[tactic(auto, using(crate::proofs::MatchClashes::clash_has_no_match))]
+pub fn clash_has_no_match()
+    ensures { ClashHasNoMatch }
+{}
+
+/// A term that is lifted over parameters, each unknown being applied to them, clashes where the term
+/// did.
+#[tactic(auto, using(crate::proofs::Liftings::lifted_is_lifting, crate::proofs::Liftings::liftings_clash))]
+pub fn liftings_clash()
+    ensures lifted { LiftedIsLifting }
+    ensures clash { LiftingsClash }
 {}

@@ -21,7 +21,10 @@ mod types;
 mod unification;
 
 pub use fresh::Fresh;
-pub use laws::{no_is_right, unification_ends, yes_is_right};
-pub use matching::{match_pattern, match_patterns};
+pub use laws::{
+    clash_has_no_match, clashes_are_found, liftings_clash, no_is_right, unification_ends,
+    yes_is_right,
+};
+pub use matching::{match_pattern, match_patterns, match_patterns_from};
 pub use types::{TypePair, unify_type_pairs, unify_types};
 pub use unification::{TermPair, Unified, unify, unify_pairs};

@@ -5,7 +5,7 @@ ghost use Rattle.isa_terms.specs.Types.{tys_of};
 ghost use Rattle.isa_terms.specs.Instance.{Instance, find_term};
 ghost use Rattle.isa_terms.specs.Terms.{App, Bound};
 ghost use Rattle.isa_terms.specs.Replace.{raise};
-ghost use Rattle.isa_unify.specs.Matching.{ty_matched, tys_matched, flexible, bound_to, solved, typed, matched, closed_type, match_from, match_of, all_from, match_all_of, IsAsked, IsMatch, IsTheMatch, AreAsked, AreMatched, AllMatch};
+ghost use Rattle.isa_unify.specs.Matching.{ty_matched, tys_matched, flexible, bound_to, solved, typed, matched, closed_type, match_from, match_of, all_from, match_all_of, IsAsked, IsMatch, IsTheMatch, AreAsked, AreMatched, AllMatch, IsSettled, AreMatchedFrom, AllMatchFrom};
 ghost use Rattle.isa_unify.specs.BinderLists.{binders_in, flexible_of};
 
 use crate::binders::{Binders, is_closed, solution};
@@ -228,6 +228,20 @@ fn find_match(alloc: Global, pattern: &Term, term: &Term) -> Result<Option<Inst>
     Ok(found.then_some(inst))
 }
 
+/// The instance with what matches the patterns with the terms, if there is such.
+fn find_match_from(
+    alloc: Global,
+    patterns: &[Term],
+    terms: &[Term],
+    start: &Inst,
+) -> Result<Option<Inst>, AllocError>
+    ensures { IfOk result (λ found. found ≡ all_from start.now patterns.now terms.now) }
+{
+    let mut inst = start.copy(alloc)?;
+    let found = extend_by_all(alloc, &mut inst, patterns, terms)?;
+    Ok(found.then_some(inst))
+}
+
 /// The match of the patterns with the terms, if there is one.
 fn find_match_of_all(
     alloc: Global,
@@ -269,4 +283,24 @@ pub fn match_patterns(
     ensures none { IfOk result (λ found. IfNone found (AreAsked patterns.now terms.now → (s : Instance) → AreMatched patterns.now terms.now s → ⊥)) }
 {
     find_match_of_all(alloc, patterns, terms)
+}
+
+/// The instance `start` with terms and types for the other unknowns and type unknowns of the patterns that makes each
+/// pattern equal to the term at its place, if there is one.
+///
+/// Only what has no entry in `start` is instantiated. An unknown or type unknown that `start` maps to itself counts as a
+/// constant. As with `match_patterns`, the one such instance is found, where the terms of `start` are normal, have the
+/// types of their unknowns, and `start` has the type unknowns of these types; so what was found can be gone on from.
+#[tactic(auto, using(crate::proofs::StartMatches::none_from))]
+pub fn match_patterns_from(
+    alloc: Global,
+    patterns: &[Term],
+    terms: &[Term],
+    start: &Inst,
+) -> Result<Option<Inst>, AllocError>
+    ensures answer { IfOk result (λ found. found ≡ all_from start.now patterns.now terms.now) }
+    ensures found { IfOk result (λ found. IfSome found (λ inst. IsSettled start.now → AreAsked patterns.now terms.now → AllMatchFrom start.now patterns.now terms.now inst)) }
+    ensures none { IfOk result (λ found. IfNone found (IsSettled start.now → AreAsked patterns.now terms.now → (s : Instance) → AreMatchedFrom start.now patterns.now terms.now s → ⊥)) }
+{
+    find_match_from(alloc, patterns, terms, start)
 }
