@@ -1,4 +1,7 @@
-pub mod Marks
+pub mod Replacing
 pub mod Solutions
 pub mod Sound
 pub mod Complete
+pub mod Unifiers
+pub mod Lacking
+pub mod MostGeneral

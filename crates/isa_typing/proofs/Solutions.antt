@@ -10,7 +10,7 @@ use Rattle.isa_typing.specs.Typings.{instance_at}
 use Rattle.isa_typing.specs.RawTerms.{Raw, RawName, RawUnknown, RawConst, RawTyped, RawAbs, RawApp, raw_size}
 use Rattle.isa_typing.specs.Scopes.{Declared, Scope, bound_at}
 use Rattle.isa_typing.specs.Inference.{Inferred, atom, constant_inferred, impossible, undeclared, notation_inferred, global_inferred, name_inferred, binder_type, annotated, abstracted, applied, inferred}
-use Rattle.isa_typing.proofs.Marks.{instance_kept}
+use Rattle.isa_typing.proofs.Replacing.{instance_kept}
 
 abbrev pub Solution : Type 0
 Solution = List ℕ → ℕ → Ty
@@ -49,18 +49,18 @@ SameScope r s (b ∷ bs) = (instance_at r b.1 ≡ instance_at s b.1) × SameScop
 -- the types in scope are the same at a bound variable
 pub bound_same : (r s : Solution) (x : List ℕ) (G : Scope) → SameScope r s G → (p : ℕ × Ty) → bound_at x G ≡ Some p → instance_at r p.1 ≡ instance_at s p.1
 bound_same r s x [] h p e = absurd (cc)
-bound_same r s x (b ∷ bs) h p e = at (name_eq x b.0) e where
-  inner : (o : Option (ℕ × Ty)) → bound_at x bs ≡ o → option_map (λ (q : ℕ × Ty). (q.0 + 1, q.1)) o ≡ Some p → instance_at r p.1 ≡ instance_at s p.1
-  inner None w e = absurd (cc)
-  inner (Some q) w e =
+bound_same r s x (b ∷ bs) h p e = at (λ q w. bound_same r s x bs h.1 q w) (name_eq x b.0) e where
+  inner : ((q : ℕ × Ty) → bound_at x bs ≡ Some q → instance_at r q.1 ≡ instance_at s q.1) → (o : Option (ℕ × Ty)) → bound_at x bs ≡ o → option_map (λ (q : ℕ × Ty). (q.0 + 1, q.1)) o ≡ Some p → instance_at r p.1 ≡ instance_at s p.1
+  inner ih None w e = absurd (cc)
+  inner ih (Some q) w e =
       let c : (q.0 + 1, q.1) ≡ p = cc in
-      subst (λ (z : ℕ × Ty). instance_at r z.1 ≡ instance_at s z.1) c (bound_same r s x bs h.1 q w)
+      subst (λ (z : ℕ × Ty). instance_at r z.1 ≡ instance_at s z.1) c (ih q w)
 
-  at : (v : Bool) → cond v (Some (0, b.1)) (option_map (λ (q : ℕ × Ty). (q.0 + 1, q.1)) (bound_at x bs)) ≡ Some p → instance_at r p.1 ≡ instance_at s p.1
-  at true e =
+  at : ((q : ℕ × Ty) → bound_at x bs ≡ Some q → instance_at r q.1 ≡ instance_at s q.1) → (v : Bool) → cond v (Some (0, b.1)) (option_map (λ (q : ℕ × Ty). (q.0 + 1, q.1)) (bound_at x bs)) ≡ Some p → instance_at r p.1 ≡ instance_at s p.1
+  at ih true e =
       let c : (0, b.1) ≡ p = cc in
       subst (λ (z : ℕ × Ty). instance_at r z.1 ≡ instance_at s z.1) c h.0
-  at false e = inner (bound_at x bs) refl e
+  at ih false e = inner ih (bound_at x bs) refl e
 
 -- the declared type of a constant at the node n has variables of that node only
 mutual

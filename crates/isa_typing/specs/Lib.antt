@@ -7,3 +7,8 @@ pub mod Typings
 pub mod Marks
 pub mod Inference
 pub mod BinderLists
+pub mod NewNames
+pub mod TextNames
+pub mod Naming
+pub mod Principal
+pub mod Laws

@@ -1,6 +1,6 @@
 -- Types whose leaves are replaced, and names that keep apart what inference must not mix: the type variables and type
 -- unknowns of the text, which stay, and its own variables.
-use Rattle.std.specs.Prelude.{ℕ, suc, ◌+◌, List, [], ◌∷◌, ◌++◌, replicate, Option, Some, None}
+use Rattle.std.specs.Prelude.{ℕ, zero, suc, List, [], ◌∷◌, ◌++◌, replicate, Option, Some, None}
 use Rattle.isa_terms.specs.Types.{Ty, Tys, TyCon, TyFixed, TyUnknown, NoTys, MoreTys}
 use Rattle.isa_terms.specs.Terms.{Tm, Const, Free, Unknown, Bound, Abs, App}
 
@@ -67,3 +67,26 @@ marked o T = ty_with kept_variable (unknown_mark o) T
 
 abbrev pub marked_tys : Option ℕ → Tys → Tys
 marked_tys o Ts = tys_with kept_variable (unknown_mark o) Ts
+
+-- the name and the number that are spelled
+abbrev pub named : List ℕ → List ℕ
+named [] = []
+named (zero ∷ x) = x
+named (suc k ∷ x) = named x
+
+abbrev pub numbered : List ℕ → ℕ
+numbered [] = 0
+numbered (zero ∷ x) = 0
+numbered (suc k ∷ x) = suc (numbered x)
+
+-- a type variable, or a type unknown, by name and number
+abbrev pub of_text : List ℕ → ℕ → Ty
+of_text x zero = TyFixed x
+of_text x (suc i) = TyUnknown x i
+
+-- the text's type variables and type unknowns again
+abbrev pub thawed_name : List ℕ → Ty
+thawed_name a = of_text (named a) (numbered a)
+
+abbrev pub thawed : Ty → Ty
+thawed T = ty_with thawed_name TyUnknown T

@@ -2,7 +2,9 @@
 #![tactic(auto)]
 
 mod infer;
+mod laws;
 mod marks;
 mod raw;
 
+pub use laws::unifiers_are_principal;
 pub use raw::{RawNode, RawTerm};

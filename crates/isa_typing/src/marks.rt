@@ -60,7 +60,7 @@ fn marked_unknown(
 
 /// A type of the text, or the declared type of the constant at that node.
 #[cycle(marked)]
-#[tactic(auto, using(isa_terms::proofs::Types::tys_of_list, crate::proofs::Marks::ty_with_closed))]
+#[tactic(auto, using(isa_terms::proofs::Types::tys_of_list, crate::proofs::Replacing::ty_with_closed))]
 pub(crate) fn marked_typ(alloc: Global, node: Option<u32>, typ: &Typ) -> Result<Typ, AllocError>
     ensures { IfOk result (λ t. t ≡ marked node typ.now) }
 {

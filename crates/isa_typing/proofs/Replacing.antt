@@ -3,7 +3,7 @@ use Rattle.std.proofs.Common.{◌≡◌, ℕ, zero, suc, ◌+◌, List, [], ◌�
 use Rattle.isa_terms.specs.Types.{Ty, Tys, TyCon, TyFixed, TyUnknown, NoTys, MoreTys}
 use Rattle.isa_terms.specs.Terms.{Tm, Const, Free, Unknown, Bound, Abs, App}
 use Rattle.isa_terms.specs.Facts.{ty_open, tys_open, ty_named, tys_named}
-use Rattle.isa_typing.specs.Marks.{ty_with, tys_with, retyped, spelled, kept, kept_variable, kept_unknown, constant_unknown, constant_type_at}
+use Rattle.isa_typing.specs.Marks.{ty_with, tys_with, retyped, spelled, kept, kept_variable, kept_unknown, constant_unknown, constant_type_at, named, numbered, of_text, thawed_name, thawed}
 use Rattle.isa_typing.specs.Typings.{instance_at}
 
 or_left : (a b : Bool) → (a || b) ≡ false → a ≡ false
@@ -62,17 +62,6 @@ mutual
 pub instance_kept : (r : List ℕ → ℕ → Ty) (T : Ty) → instance_at r (kept T) ≡ kept T
 instance_kept r T = ty_with-ty_with TyFixed kept_variable r kept_unknown T
 
--- the name and the number that are spelled
-abbrev pub named : List ℕ → List ℕ
-named [] = []
-named (zero ∷ x) = x
-named (suc k ∷ x) = named x
-
-abbrev pub numbered : List ℕ → ℕ
-numbered [] = 0
-numbered (zero ∷ x) = 0
-numbered (suc k ∷ x) = suc (numbered x)
-
 pub named-spelled : (i : ℕ) (x : List ℕ) → named (spelled i x) ≡ x
 named-spelled zero x = refl
 named-spelled (suc i) x = named-spelled i x
@@ -80,18 +69,6 @@ named-spelled (suc i) x = named-spelled i x
 pub numbered-spelled : (i : ℕ) (x : List ℕ) → numbered (spelled i x) ≡ i
 numbered-spelled zero x = refl
 numbered-spelled (suc i) x = ap suc (numbered-spelled i x)
-
--- a type variable, or a type unknown, by name and number
-abbrev pub of_text : List ℕ → ℕ → Ty
-of_text x zero = TyFixed x
-of_text x (suc i) = TyUnknown x i
-
--- the text's type variables and type unknowns again
-abbrev pub thawed_name : List ℕ → Ty
-thawed_name a = of_text (named a) (numbered a)
-
-abbrev pub thawed : Ty → Ty
-thawed T = ty_with thawed_name TyUnknown T
 
 pub thawed-kept_unknown : (x : List ℕ) (i : ℕ) → thawed (kept_unknown x i) ≡ TyUnknown x i
 thawed-kept_unknown x i = λ j. of_text (named-spelled i x j) (suc (numbered-spelled i x j))
