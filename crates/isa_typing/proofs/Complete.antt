@@ -109,7 +109,7 @@ constant_completed s r n c D = record {
   agrees = at_node_below n (choice s) r;
   solves = tt;
   term = ap (Const c) (constant_chosen s r n D);
-  typ = constant_chosen s r n D
+  typ = constant_chosen s r n D;
 }
 
 bound_completed : (r : Solution) (n : ℕ) (x : List ℕ) (k : ℕ) (T : Ty) (o : Option (ℕ × Ty)) (d : Option Ty) → BothBound r (Some (k, T)) o → Completed r n (name_inferred n x o d) (Bound k) T
@@ -134,7 +134,7 @@ annotated_completed r n p t T c = record {
   agrees = below_less n (n + 1) r c.solution (omega arith) c.agrees;
   solves = solves_both c.solution p.equations ((p.typ, kept T) ∷ []) c.solves (c.typ ∙ sym (instance_kept c.solution T), tt);
   term = c.term;
-  typ = instance_kept c.solution T
+  typ = instance_kept c.solution T;
 }
 
 binder_chosen : (r : Solution) (n : ℕ) (o : Option Ty) (S : Ty) → IfSome o (λ A. A ≡ S) → instance_at (at_node n (λ y. kept S) r) (binder_type n o) ≡ kept S
@@ -153,7 +153,7 @@ abstracted_completed r n x o p t S T h c =
       agrees = agree_trans n (n + 1) r q c.solution (omega arith) (at_node_below n (λ y. kept S) r) c.agrees;
       solves = c.solves;
       term = λ i. Abs x (e i) (c.term i);
-      typ = λ i. function_of (e i) (c.typ i)
+      typ = λ i. function_of (e i) (c.typ i);
     }
 
 applied_completed : (r : Solution) (n m : ℕ) (p q : Inferred) (t u : Tm) (S T : Ty) → n + 1 ≤ m → (c : Completed (at_node n (λ y. kept T) r) (n + 1) p t (function_of S T)) → (d : Completed c.solution m q u S) → SameOf c.solution d.solution p → Completed r n (applied n p q) (App t u) T
@@ -167,7 +167,7 @@ applied_completed r n m p q t u S T le c d same =
       agrees = agree_trans n m r c.solution d.solution (omega arith) (agree_trans n (n + 1) r z c.solution (omega arith) (at_node_below n (λ y. kept T) r) c.agrees) d.agrees;
       solves = solves_both d.solution (p.equations ++ q.equations) (wanted n p q ∷ []) (solves_both d.solution p.equations q.equations (same.equations c.solves) d.solves) (has ∙ sym wants, tt);
       term = λ i. App ((sym same.term ∙ c.term) i) (d.term i);
-      typ = here
+      typ = here;
     }
 
 -- each typing is what the inferred term becomes under some solution of the equations

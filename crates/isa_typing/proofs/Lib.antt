@@ -4,4 +4,7 @@ pub mod Sound
 pub mod Complete
 pub mod Unifiers
 pub mod Lacking
+pub mod Noted
+pub mod InOrder
 pub mod MostGeneral
+pub mod FirstFree

@@ -1,6 +1,8 @@
 -- The typing of a most general unifier, its open types named, is the most general typing.
 use Rattle.std.proofs.Common.{◌≡◌, ℕ, zero, suc, ◌+◌, ◌<◌, List, [], ◌∷◌, ◌++◌, length, reverse, Bool, true, false, cond, ◌&&◌, ◌||◌, nat_eq, Option, Some, None, refl, sym, ap, ◌∙◌, subst, unwrap_or, arith}
 use Rattle.std.proofs.lemmas.List.{reverse-append, reverse-reverse}
+use Rattle.std.specs.Prelude.{option_map}
+use Rattle.isa_terms.specs.Norm.{norm}
 use Rattle.isa_terms.specs.Types.{Ty, Tys, TyCon, TyFixed, TyUnknown, NoTys, MoreTys}
 use Rattle.isa_terms.specs.Terms.{Tm, Const, Free, Unknown, Bound, Abs, App}
 use Rattle.isa_terms.specs.Equal.{name_eq, ty_eq}
@@ -16,8 +18,8 @@ use Rattle.isa_typing.specs.Marks.{ty_with, tys_with, retyped, spelled, named, n
 use Rattle.isa_typing.specs.Typings.{Variables, instance_at, IsTyped}
 use Rattle.isa_typing.specs.TextNames.{names_in}
 use Rattle.isa_typing.specs.NewNames.{variable_name, IsFirstFree, AreFirstFree}
-use Rattle.isa_typing.specs.Naming.{entries_for}
-use Rattle.isa_typing.specs.Principal.{IsTyping, type_beside, with_types, names_of, IsMostGeneralTyping}
+use Rattle.isa_typing.specs.Naming.{entries_for, IsNamed, solved_of}
+use Rattle.isa_typing.specs.Principal.{IsTyping, type_beside, with_types, names_of, variable_places, first_occurrences, IsMostGeneralTyping, Answers}
 use Rattle.isa_typing.specs.RawTerms.{Raw}
 use Rattle.isa_typing.specs.Scopes.{Declared}
 use Rattle.isa_typing.specs.Inference.{Inferred, inferred}
@@ -26,7 +28,9 @@ use Rattle.isa_typing.proofs.Solutions.{Solution, Solves, solves_both, wanted}
 use Rattle.isa_typing.proofs.Sound.{found, variables_of, solution_means}
 use Rattle.isa_typing.proofs.Complete.{EachSolution, each_solution}
 use Rattle.isa_typing.proofs.Unifiers.{solution_of, inst_ty_at, unifier_solves, most_general_at, no_solution}
-use Rattle.isa_typing.proofs.Lacking.{not_left, not_right, not_named_left, not_named_right, Lacks, AllLack, OfTypes, of_types_under, solved_lacks}
+use Rattle.isa_typing.proofs.Lacking.{not_left, not_right, Lacks, AllLack, OfTypes, solved_lacks}
+use Rattle.isa_typing.proofs.Noted.{or_first, or_last, new_not_taken, new_other, new_not_empty, AllNoted, noted_left, noted_right, types_noted, own_noted}
+use Rattle.isa_typing.proofs.InOrder.{in_text, names_in_order}
 
 -- instances of types alone
 inst_tm_types : (q : List TypeEntry) (t : Tm) → inst_tm q [] t ≡ retyped (inst_ty q) t
@@ -69,31 +73,8 @@ typing_of declared u q s h =
     record {
       variables = variables_of r;
       typ = found r p.typ;
-      typed = subst (λ t. IsTyped declared (variables_of r) [] u t (found r p.typ)) (found_term q s p.term) (solution_means declared r u [] 1 (after_solves q s p.equations h))
+      typed = subst (λ t. IsTyped declared (variables_of r) [] u t (found r p.typ)) (found_term q s p.term) (solution_means declared r u [] 1 (after_solves q s p.equations h));
     }
-
--- 2. New names
-
--- a new name is not among those that were taken
-new_not_taken : (taken ns : List (List ℕ)) → AreFirstFree taken ns → (a : List ℕ) → is_named ns a ≡ true → is_named taken a ≡ false
-new_not_taken taken [] f a h = absurd (cc)
-new_not_taken taken (n ∷ ns) f a h = at (λ w. new_not_taken (taken ++ n ∷ []) ns f.1 a w) (name_eq a n) refl h where
-  at : (is_named ns a ≡ true → is_named (taken ++ n ∷ []) a ≡ false) → (v : Bool) → name_eq a n ≡ v → (v || is_named ns a) ≡ true → is_named taken a ≡ false
-  at ih true e w = subst (λ b. is_named taken b ≡ false) (sym (name_true a n e)) f.0.is_free
-  at ih false e w = not_named_left taken (n ∷ []) a (ih w)
-
-new_other : (taken ns : List (List ℕ)) (n : List ℕ) → AreFirstFree (taken ++ n ∷ []) ns → (a : List ℕ) → is_named ns a ≡ true → name_eq a n ≡ false
-new_other taken ns n f a h =
-    not_left (name_eq a n) false (not_named_right taken (n ∷ []) a (new_not_taken (taken ++ n ∷ []) ns f a h))
-
-new_not_empty : (taken ns : List (List ℕ)) → AreFirstFree taken ns → (a : List ℕ) → is_named ns a ≡ true → name_eq a [] ≡ false
-new_not_empty taken [] f a h = absurd (cc)
-new_not_empty taken (n ∷ ns) f a h = at (λ w. new_not_empty (taken ++ n ∷ []) ns f.1 a w) (name_eq a n) refl h where
-  at : (is_named ns a ≡ true → name_eq a [] ≡ false) → (v : Bool) → name_eq a n ≡ v → (v || is_named ns a) ≡ true → name_eq a [] ≡ false
-  at ih true e w =
-      let is : a ≡ variable_name f.0.number = name_true a n e ∙ f.0.name in
-      subst (λ b. name_eq b [] ≡ false) (sym is) refl
-  at ih false e w = ih w
 
 -- the names, each with the type that the solution gives to the variable of its place
 abbrev types_beside : Solution → List Ty → List (List ℕ) → List (List ℕ × Ty)
@@ -120,14 +101,6 @@ record Placed (r : Solution) (Us : List Ty) (ns : List (List ℕ)) (x : List ℕ
   entry : find_type x i (entries_for Us ns) ≡ Some (kept_variable name)
   beside : type_beside (types_beside r Us ns) name ≡ thawed (r x i)
 
-or_last : (a b : Bool) → b ≡ true → (a || b) ≡ true
-or_last true b h = refl
-or_last false b h = h
-
-or_first : (a b : Bool) → a ≡ true → (a || b) ≡ true
-or_first true b h = refl
-or_first false b h = absurd (cc)
-
 -- the test of two variables is false the other way round too
 not_turned : (x : List ℕ) (i : ℕ) (y : List ℕ) (j : ℕ) → (name_eq x y && nat_eq i j) ≡ false → (name_eq y x && nat_eq j i) ≡ false
 not_turned x i y j e = at (name_eq y x && nat_eq j i) refl where
@@ -141,7 +114,7 @@ later taken r U Us n ns x i f e p = record {
   name = p.name;
   is_new = or_last (name_eq p.name n) (is_named ns p.name) p.is_new;
   entry = e ∙ p.entry;
-  beside = ap (λ v. cond v (thawed (instance_at r U)) (type_beside (types_beside r Us ns) p.name)) (new_other taken ns n f p.name p.is_new) ∙ p.beside
+  beside = ap (λ v. cond v (thawed (instance_at r U)) (type_beside (types_beside r Us ns) p.name)) (new_other taken ns n f p.name p.is_new) ∙ p.beside;
 }
 
 placed : (taken : List (List ℕ)) (r : Solution) (Us : List Ty) (ns : List (List ℕ)) → length ns ≡ length Us → AreFirstFree taken ns → (x : List ℕ) (i : ℕ) → has_ty Us (TyUnknown x i) ≡ true → Placed r Us ns x i
@@ -157,68 +130,11 @@ placed taken r (TyUnknown y j ∷ Us) (n ∷ ns) l f x i h = at (λ w. placed (t
         name = n;
         is_new = or_first (name_eq n n) (is_named ns n) (name_self n);
         entry = ap (λ v. cond v (Some (kept_variable n)) (find_type x i (entries_for Us ns))) e;
-        beside = ap (λ v. cond v (thawed (r y j)) (type_beside (types_beside r Us ns) n)) (name_self n) ∙ (λ k. thawed (r (sym same.0 k) (sym same.1 k)))
+        beside = ap (λ v. cond v (thawed (r y j)) (type_beside (types_beside r Us ns) n)) (name_self n) ∙ (λ k. thawed (r (sym same.0 k) (sym same.1 k)));
       }
   at ih false e =
       let none : (name_eq y x && nat_eq j i) ≡ false = not_turned x i y j e in
       later taken r (TyUnknown y j) Us n ns x i f.1 (ap (λ v. cond v (Some (kept_variable n)) (find_type x i (entries_for Us ns))) e) (ih (ap (λ v. v || has_ty Us (TyUnknown x i)) (sym none) ∙ h))
-
--- 3. The variables that are named
-
--- each of the types has one of the same
-abbrev AllNoted : List Ty → List Ty → Type 0
-AllNoted Us [] = Unit {0}
-AllNoted Us (T ∷ Ts) = (has_ty Us T ≡ true) × AllNoted Us Ts
-
-has_before : (Us : List Ty) (S T : Ty) → has_ty Us T ≡ true → has_ty (Us ++ S ∷ []) T ≡ true
-has_before [] S T h = absurd (cc)
-has_before (U ∷ Us) S T h = at (λ w. has_before Us S T w) (ty_eq U T) h where
-  at : (has_ty Us T ≡ true → has_ty (Us ++ S ∷ []) T ≡ true) → (v : Bool) → (v || has_ty Us T) ≡ true → (v || has_ty (Us ++ S ∷ []) T) ≡ true
-  at ih true w = refl
-  at ih false w = ih w
-
-has_last : (Us : List Ty) (T : Ty) → has_ty (Us ++ T ∷ []) T ≡ true
-has_last [] T = or_first (ty_eq T T) false ((ty_decides T T).1 refl)
-has_last (U ∷ Us) T = or_last (ty_eq U T) (has_ty (Us ++ T ∷ []) T) (has_last Us T)
-
-noted_keeps : (Us : List Ty) (S T : Ty) → has_ty Us T ≡ true → has_ty (ty_noted Us S) T ≡ true
-noted_keeps Us S T h = at (has_ty Us S) where
-  at : (v : Bool) → has_ty (cond v Us (Us ++ S ∷ [])) T ≡ true
-  at true = h
-  at false = has_before Us S T h
-
-noted_has : (Us : List Ty) (T : Ty) → has_ty (ty_noted Us T) T ≡ true
-noted_has Us T = at (has_ty Us T) refl where
-  at : (v : Bool) → has_ty Us T ≡ v → has_ty (cond v Us (Us ++ T ∷ [])) T ≡ true
-  at true e = e
-  at false e = has_last Us T
-
-all_noted_keep : (Us Ts : List Ty) (T : Ty) → has_ty Us T ≡ true → has_ty (tys_noted Us Ts) T ≡ true
-all_noted_keep Us [] T h = h
-all_noted_keep Us (S ∷ Ts) T h = all_noted_keep (ty_noted Us S) Ts T (noted_keeps Us S T h)
-
-all_noted : (Us Ts : List Ty) → AllNoted (tys_noted Us Ts) Ts
-all_noted Us [] = tt
-all_noted Us (T ∷ Ts) = (all_noted_keep (ty_noted Us T) Ts T (noted_has Us T), all_noted (ty_noted Us T) Ts)
-
-noted_left : (Us Ss Ts : List Ty) → AllNoted Us (Ss ++ Ts) → AllNoted Us Ss
-noted_left Us [] Ts h = tt
-noted_left Us (S ∷ Ss) Ts h = (h.0, noted_left Us Ss Ts h.1)
-
-noted_right : (Us Ss Ts : List Ty) → AllNoted Us (Ss ++ Ts) → AllNoted Us Ts
-noted_right Us [] Ts h = h
-noted_right Us (S ∷ Ss) Ts h = noted_right Us Ss Ts h.1
-
-types_noted : (Us : List Ty) (t : Tm) → AllNoted Us (type_unknown_places t) → OfTypes (λ T. AllNoted Us (ty_unknown_places T)) t
-types_noted Us (Const c T) h = h
-types_noted Us (Free x T) h = h
-types_noted Us (Unknown x i T) h = h
-types_noted Us (Bound n) h = tt
-types_noted Us (Abs x T b) h = (noted_left Us (ty_unknown_places T) (type_unknown_places b) h, types_noted Us b (noted_right Us (ty_unknown_places T) (type_unknown_places b) h))
-types_noted Us (App f a) h = (types_noted Us f (noted_left Us (type_unknown_places f) (type_unknown_places a) h), types_noted Us a (noted_right Us (type_unknown_places f) (type_unknown_places a) h))
-
-own_noted : (t : Tm) → AllNoted (type_unknowns_of (t ∷ [])) (type_unknown_places t)
-own_noted t = noted_left (type_unknowns_of (t ∷ [])) (type_unknown_places t) [] (all_noted [] (type_unknown_places t ++ []))
 
 -- 4. Each typing is the named one with types for the new names
 
@@ -297,10 +213,34 @@ most_general_typing declared u q ns e l f =
     let g : IsMostGeneral p.equations q = general_of_reversed p.equations q (types_most_general (reverse p.equations) q e) in
     let Us : List Ty = type_unknowns_of (inst_tm q [] p.term ∷ []) in
     let same : Us ≡ type_unknowns_of (retyped (inst_ty q) p.term ∷ []) = ap (λ X. type_unknowns_of (X ∷ [])) (inst_tm_types q p.term) in
+    let X : Tm = inst_tm q [] p.term in
+    let lacking : (a : List ℕ) → is_named ns a ≡ true → OfTypes (Lacks a) X = λ a h. subst (OfTypes (Lacks a)) (sym (inst_tm_types q p.term)) (solved_lacks declared u q g a (new_not_empty (names_in declared u) ns f a h) (new_not_taken (names_in declared u) ns f a h)) in
+    let shown : in_text Us ns X ≡ retyped thawed (inst_tm (entries_for Us ns) [] X) = sym (ap (retyped thawed) (inst_tm_types (entries_for Us ns) X) ∙ retyped-retyped thawed (inst_ty (entries_for Us ns)) X) in
     record {
       is_typing = typing_of declared u q (entries_for Us ns) g.unifies;
       are_new = f;
+      in_order = subst (λ t. first_occurrences ns [] (variable_places t) ≡ ns) shown (names_in_order (names_in declared u) ns X l f (own_noted X) lacking);
       is_general = λ t h.
           let s = each_solution declared h.variables u t h.typ h.typed in
-          (types_beside s.solution Us ns, (names_of-types_beside s.solution Us ns l, is_general declared u q ns g Us same l f t s ∙ ap (retyped (with_types (types_beside s.solution Us ns))) (sym (named_term_at q (entries_for Us ns) p.term))))
+          (types_beside s.solution Us ns, (names_of-types_beside s.solution Us ns l, is_general declared u q ns g Us same l f t s ∙ ap (retyped (with_types (types_beside s.solution Us ns))) (sym (named_term_at q (entries_for Us ns) p.term))));
     }
+
+-- 6. The two answers
+
+abbrev under : Declared → Raw → List TypeEntry → Tm
+under declared u q = inst_tm q [] (inferred declared [] 1 u).term
+
+pub no_answer : (declared : Declared) (u : Raw) → solved_of declared u ≡ None → Answers declared u None
+no_answer declared u e = at (unify_typs (reverse (inferred declared [] 1 u).equations)) refl e where
+  at : (o : Option (List TypeEntry)) → unify_typs (reverse (inferred declared [] 1 u).equations) ≡ o → option_map (under declared u) o ≡ None → (t : Tm) → IsTyping declared u t → ⊥
+  at None w e = no_typing declared u w
+  at (Some q) w e = absurd (cc)
+
+pub some_answer : (declared : Declared) (u : Raw) (solved p t : Tm) → solved_of declared u ≡ Some solved → IsNamed (names_in declared u) solved p → t ≡ norm p → Answers declared u (Some t)
+some_answer declared u solved p t e m h = at (unify_typs (reverse (inferred declared [] 1 u).equations)) refl e where
+  at : (o : Option (List TypeEntry)) → unify_typs (reverse (inferred declared [] 1 u).equations) ≡ o → option_map (under declared u) o ≡ Some solved → Answers declared u (Some t)
+  at None w e = absurd (cc)
+  at (Some q) w e =
+      let is : solved ≡ under declared u q = cc in
+      let n : IsNamed (names_in declared u) (under declared u q) p = subst (λ z. IsNamed (names_in declared u) z p) is m in
+      (p, (n.names, (subst (IsMostGeneralTyping declared u n.names) (sym n.term) (most_general_typing declared u q n.names w n.are_all n.are_new), h)))

@@ -101,14 +101,14 @@ annotated_same : (r s : Solution) (p : Inferred) (T : Ty) → SameOf r s p → S
 annotated_same r s p T h = record {
   term = h.term;
   typ = kept_same r s T;
-  equations = λ w. solves_both s p.equations ((p.typ, kept T) ∷ []) (h.equations (solves_left r p.equations ((p.typ, kept T) ∷ []) w)) (sym h.typ ∙ (solves_right r p.equations ((p.typ, kept T) ∷ []) w).0 ∙ kept_same r s T, tt)
+  equations = λ w. solves_both s p.equations ((p.typ, kept T) ∷ []) (h.equations (solves_left r p.equations ((p.typ, kept T) ∷ []) w)) (sym h.typ ∙ (solves_right r p.equations ((p.typ, kept T) ∷ []) w).0 ∙ kept_same r s T, tt);
 }
 
 abstracted_same : (r s : Solution) (x : List ℕ) (S : Ty) (p : Inferred) → instance_at r S ≡ instance_at s S → SameOf r s p → SameOf r s (abstracted x S p)
 abstracted_same r s x S p e h = record {
   term = λ i. Abs x (e i) (h.term i);
   typ = λ i. function_of (e i) (h.typ i);
-  equations = h.equations
+  equations = h.equations;
 }
 
 abbrev pub wanted : ℕ → Inferred → Inferred → Ty × Ty
@@ -121,7 +121,7 @@ applied_same r s n p q e f a = record {
   equations = λ w.
       let both = solves_left r (p.equations ++ q.equations) (wanted n p q ∷ []) w in
       let last = solves_right r (p.equations ++ q.equations) (wanted n p q ∷ []) w in
-      solves_both s (p.equations ++ q.equations) (wanted n p q ∷ []) (solves_both s p.equations q.equations (f.equations (solves_left r p.equations q.equations both)) (a.equations (solves_right r p.equations q.equations both))) (sym f.typ ∙ last.0 ∙ (λ i. function_of (a.typ i) (e i)), tt)
+      solves_both s (p.equations ++ q.equations) (wanted n p q ∷ []) (solves_both s p.equations q.equations (f.equations (solves_left r p.equations q.equations both)) (a.equations (solves_right r p.equations q.equations both))) (sym f.typ ∙ last.0 ∙ (λ i. function_of (a.typ i) (e i)), tt);
 }
 
 pub below_less : (m n : ℕ) (r s : Solution) → m ≤ n → AgreeBelow n r s → AgreeBelow m r s

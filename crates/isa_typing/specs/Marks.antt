@@ -90,3 +90,6 @@ thawed_name a = of_text (named a) (numbered a)
 
 abbrev pub thawed : Ty → Ty
 thawed T = ty_with thawed_name TyUnknown T
+
+abbrev pub thawed_tys : Tys → Tys
+thawed_tys Ts = tys_with thawed_name TyUnknown Ts

@@ -4,7 +4,11 @@
 mod infer;
 mod laws;
 mod marks;
+mod naming;
+mod principal;
 mod raw;
+mod text_names;
 
 pub use laws::unifiers_are_principal;
+pub use principal::principal_term;
 pub use raw::{RawNode, RawTerm};

@@ -27,7 +27,7 @@ fn spelled(alloc: Global, mut bytes: Vec<u8>, number: u32, name: &Name) -> Resul
 }
 
 /// A type variable of the text or of a constant's type.
-fn kept_variable(alloc: Global, name: &Name) -> Result<Typ, AllocError>
+pub(crate) fn kept_variable(alloc: Global, name: &Name) -> Result<Typ, AllocError>
     ensures { IfOk result (λ t. t ≡ kept_variable name.now) }
 {
     let name = spelled(alloc, Vec::new(alloc), 0, name)?;
