@@ -1,0 +1,10 @@
+pub mod Replacing
+pub mod Solutions
+pub mod Sound
+pub mod Complete
+pub mod Unifiers
+pub mod Lacking
+pub mod Noted
+pub mod InOrder
+pub mod MostGeneral
+pub mod FirstFree

@@ -1,0 +1,32 @@
+-- Type variables in the place of the variables that unification leaves open.
+use Rattle.std.specs.Prelude.{◌≡◌, ℕ, List, [], ◌∷◌, length, reverse, Option, option_map}
+use Rattle.isa_unify.specs.TypeUnification.{unify_typs}
+use Rattle.isa_typing.specs.RawTerms.{Raw}
+use Rattle.isa_typing.specs.Scopes.{Declared}
+use Rattle.isa_typing.specs.Inference.{inferred}
+use Rattle.isa_terms.specs.Terms.{Tm}
+use Rattle.isa_terms.specs.Instance.{inst_tm}
+use Rattle.isa_terms.specs.Unknowns.{type_unknowns_of}
+use Rattle.isa_terms.specs.Types.{Ty, TyCon, TyFixed, TyUnknown}
+use Rattle.isa_terms.specs.declared.inst.TypeEntry.{TypeEntry}
+use Rattle.isa_typing.specs.Marks.{kept_variable, retyped, thawed}
+use Rattle.isa_typing.specs.NewNames.{AreFirstFree}
+
+-- each variable with the type variable of the name at its place
+abbrev pub entries_for : List Ty → List (List ℕ) → List TypeEntry
+entries_for [] ns = []
+entries_for (U ∷ Us) [] = []
+entries_for (TyUnknown x i ∷ Us) (n ∷ ns) = record { name = x; number = i; typ = kept_variable n } ∷ entries_for Us ns
+entries_for (TyFixed a ∷ Us) (n ∷ ns) = entries_for Us ns
+entries_for (TyCon c Ts ∷ Us) (n ∷ ns) = entries_for Us ns
+
+-- p is the term with its open types named, by names that aren't taken, and as the text has it
+pub record IsNamed (taken : List (List ℕ)) (solved p : Tm) : Type 0 where
+  pub names : List (List ℕ)
+  pub are_new : AreFirstFree taken names
+  pub are_all : length names ≡ length (type_unknowns_of (solved ∷ []))
+  pub term : p ≡ retyped thawed (inst_tm (entries_for (type_unknowns_of (solved ∷ [])) names) [] solved)
+
+-- the term under a most general unifier of its equations, if they have one
+abbrev pub solved_of : Declared → Raw → Option Tm
+solved_of declared u = option_map (λ (q : List TypeEntry). inst_tm q [] (inferred declared [] 1 u).term) (unify_typs (reverse (inferred declared [] 1 u).equations))
