@@ -6,6 +6,7 @@ pub mod Scopes
 pub mod Typings
 pub mod Marks
 pub mod Inference
+pub mod BinderLists
 pub mod NewNames
 pub mod TextNames
 pub mod Naming
