@@ -135,12 +135,18 @@ no_head (t ∷ ts) f l e = cc
 no_around : (i : ℕ) (ts : List Tm) → 0 < i → i ≤ length ts → around i ts ≡ None → ⊥
 no_around i ts l m = choose (nat_eq i 0) refl
   where
+    parts : Tm × List Tm → List Tm × Tm × List Tm
+    parts p = (take (i - 1) ts, p.0, p.1)
+
+    there : Option (List Tm × Tm × List Tm)
+    there = option_map parts (head_split (drop (i - 1) ts))
+
     zero_is : nat_eq i 0 ≡ true → i ≡ 0
     zero_is e = grind (arith, nat_tests)
 
-    choose : (b : Bool) → nat_eq i 0 ≡ b → (if b then None else option_map (λ p. (take (i - 1) ts, p.0, p.1)) (head_split (drop (i - 1) ts))) ≡ None → ⊥
+    choose : (b : Bool) → nat_eq i 0 ≡ b → (if b then None else there) ≡ None → ⊥
     choose true e n = absurd (let z = zero_is e in omega (arith, z, l))
-    choose false e n = no_head (drop (i - 1) ts) (λ p. (take (i - 1) ts, p.0, p.1)) (let k = length-drop (i - 1) ts in omega (arith, k, l, m)) n
+    choose false e n = no_head (drop (i - 1) ts) parts (let k = length-drop (i - 1) ts in omega (arith, k, l, m)) n
 
 no_step : (o : Option (List Tm × Tm × List Tm)) (f : List Tm × Tm × List Tm → Goals) → option_and_then (λ at. Some (f at)) o ≡ None → o ≡ None
 no_step None f e = refl
