@@ -3,8 +3,7 @@ use Rattle.std.specs.Prelude.{◌≡◌, ℕ, ◌+◌, max, List, [], ◌∷◌,
 use Rattle.std.specs.declared.alloc.AllocError.{AllocError}
 use Rattle.isa_terms.specs.Types.{Ty}
 use Rattle.isa_terms.specs.Terms.{Tm, Const, Free, Unknown, Bound, Abs, App}
-use Rattle.isa_terms.specs.Typing.{type_at}
-use Rattle.isa_terms.specs.declared.typing.IllTyped.{IllTyped}
+use Rattle.isa_terms.specs.Typing.{TypeFault, type_at}
 use Rattle.isa_unify.specs.declared.equation.Equation.{Equation}
 use Rattle.isa_unify.specs.declared.unification.TermPair.{TermPair}
 use Rattle.isa_unify.specs.declared.unification.Unified.{Unified}
@@ -35,7 +34,7 @@ abbrev pub equations_of : List TermPair → List Equation
 equations_of [] = []
 equations_of (p ∷ ps) = record { binders = []; left = p.left; right = p.right } ∷ equations_of ps
 
-abbrev pub if_ok : Result Ty IllTyped → Option Ty
+abbrev pub if_ok : Result Ty TypeFault → Option Ty
 if_ok (Ok T) = Some T
 if_ok (Err fault) = None
 
