@@ -4,7 +4,7 @@ use Rattle.std.specs.Coded.{Coded, coded_ℕ, coded_list, coded_option}
 use base.Stored.{Gv, gnil, gnum, gcons, num}
 use Rattle.isa_terms.specs.Types.{Ty}
 use Rattle.isa_terms.specs.Codes.{coded_ty}
-use Rattle.isa_typing.specs.RawTerms.{Raw, RawName, RawUnknown, RawConst, RawTyped, RawAbs, RawApp}
+use Rattle.isa_raw.specs.RawTerms.{Raw, RawName, RawUnknown, RawConst, RawTyped, RawAbs, RawApp}
 
 abbrev head : Gv → Gv
 head gnil = gnil

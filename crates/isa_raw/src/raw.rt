@@ -1,7 +1,7 @@
 //! Terms as a text gives them.
 
 ghost use Rattle.std.specs.Prelude.{◌≡◌, IfOk};
-ghost use Rattle.isa_typing.specs.RawLayers.{raw_of};
+ghost use Rattle.isa_raw.specs.RawLayers.{raw_of};
 
 use isa_terms::{Name, Typ};
 use std::alloc::{AllocError, Global};
@@ -32,20 +32,20 @@ pub struct RawTerm {
 }
 
 impl Model for RawTerm {
-    ghost use Rattle.isa_typing.specs.RawTerms.{Raw, raw_size};
-    ghost use Rattle.isa_typing.specs.RawCodes.{coded_raw};
+    ghost use Rattle.isa_raw.specs.RawTerms.{Raw, raw_size};
+    ghost use Rattle.isa_raw.specs.RawCodes.{coded_raw};
 
     ghost Value = { Raw };
 
     ghost coded = { coded_raw };
 
-    ghost use Rattle.isa_typing.specs.RawLayers.{raw_of};
+    ghost use Rattle.isa_raw.specs.RawLayers.{raw_of};
 
     ghost view = { λ a. raw_of a.node.value };
 
     ghost size = { raw_size };
 
-    ghost use Rattle.isa_typing.specs.RawFalls.{raw_falls};
+    ghost use Rattle.isa_raw.specs.RawFalls.{raw_falls};
 
     ghost size_decreases = { λ a h. raw_falls a.node.value };
 }

@@ -1,7 +1,7 @@
 -- One level of a raw term, as the code holds it, as a raw term.
-use Rattle.isa_typing.specs.RawTerms.{Raw, RawName, RawUnknown, RawConst, RawTyped, RawAbs, RawApp}
-use Rattle.isa_typing.specs.declared.raw.RawNode.{RawNode}
-use Rattle.isa_typing.specs.declared.raw.RawNode.TheVariants.{Name, Unknown, Constant, Typed, Abs, App}
+use Rattle.isa_raw.specs.RawTerms.{Raw, RawName, RawUnknown, RawConst, RawTyped, RawAbs, RawApp}
+use Rattle.isa_raw.specs.declared.raw.RawNode.{RawNode}
+use Rattle.isa_raw.specs.declared.raw.RawNode.TheVariants.{Name, Unknown, Constant, Typed, Abs, App}
 
 abbrev pub raw_of : RawNode → Raw
 raw_of (Name name) = RawName name
