@@ -41,14 +41,3 @@ named_past (suc b) rest h = refl
 pub numbered_past : (b : ℕ) (rest : List ℕ) → b ≢ 0 → numbered (b ∷ rest) ≡ suc (numbered rest)
 numbered_past zero rest h = absurd (h refl)
 numbered_past (suc b) rest h = refl
-
--- the named term from its parts
-pub named_of_parts : (taken : List (List ℕ)) (solved t p : Tm) (ts : List Tm) (Us : List Ty) (names : List (List ℕ)) (es : List TypeEntry) → ts ≡ solved ∷ [] → Us ≡ type_unknowns_of ts → AreFirstFree taken names → length names ≡ length Us → es ≡ entries_for Us names → t ≡ inst_tm es [] solved → p ≡ retyped thawed t → IsNamed taken solved p
-named_of_parts taken solved t p ts Us names es a b f l c d e =
-    let is : Us ≡ type_unknowns_of (solved ∷ []) = b ∙ ap type_unknowns_of a in
-    record {
-      names = names;
-      are_new = f;
-      are_all = l ∙ ap length is;
-      term = e ∙ (ap (retyped thawed) d ∙ (ap (λ z. retyped thawed (inst_tm z [] solved)) c ∙ ap (λ Vs. retyped thawed (inst_tm (entries_for Vs names) [] solved)) is));
-    }

@@ -8,3 +8,6 @@ pub mod Noted
 pub mod InOrder
 pub mod MostGeneral
 pub mod FirstFree
+pub mod Solved
+pub mod Meant
+pub mod Indexed

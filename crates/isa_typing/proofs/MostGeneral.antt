@@ -1,6 +1,5 @@
 -- The typing of a most general unifier, its open types named, is the most general typing.
 use Rattle.std.proofs.Common.{◌≡◌, ℕ, zero, suc, ◌+◌, ◌<◌, List, [], ◌∷◌, ◌++◌, length, map, reverse, Bool, true, false, cond, ◌&&◌, ◌||◌, nat_eq, Option, Some, None, refl, sym, ap, ◌∙◌, subst, unwrap_or, arith}
-use Rattle.std.proofs.lemmas.List.{reverse-append, reverse-reverse}
 use Rattle.isa_terms.specs.Norm.{norm}
 use Rattle.isa_terms.specs.Types.{Ty, Tys, TyCon, TyFixed, TyUnknown, NoTys, MoreTys}
 use Rattle.isa_terms.specs.Terms.{Tm, Const, Free, Unknown, Bound, Abs, App}
@@ -11,8 +10,6 @@ use Rattle.isa_terms.specs.Unknowns.{ty_unknown_places, tys_unknown_places, type
 use Rattle.isa_terms.specs.declared.inst.TypeEntry.{TypeEntry}
 use Rattle.isa_terms.proofs.Equal.{ty_decides}
 use Rattle.isa_unify.specs.TypeUnification.{Unifies, IsMostGeneral}
-use Rattle.isa_unify.specs.TypeStacks.{pair_of, stack_of}
-use Rattle.isa_unify.specs.declared.types.TypePair.{TypePair}
 use Rattle.isa_unify.proofs.Tests.{name_self, name_true, key_true, key_turned}
 use Rattle.isa_typing.specs.Marks.{ty_with, tys_with, retyped, spelled, named, numbered, of_text, thawed_name, thawed, kept, kept_variable}
 use Rattle.isa_typing.specs.Typings.{Variables, instance_at, IsTyped}
@@ -27,6 +24,7 @@ use Rattle.isa_typing.proofs.Replacing.{thawed-kept, retyped-retyped, retyped_sa
 use Rattle.isa_typing.proofs.Solutions.{Solution, Solves, wanted}
 use Rattle.isa_typing.proofs.Sound.{found, variables_of, solution_means}
 use Rattle.isa_typing.proofs.Complete.{EachSolution, each_solution}
+use Rattle.isa_typing.proofs.Solved.{unifies_reversed, unifies_back}
 use Rattle.isa_typing.proofs.Unifiers.{solution_of, inst_ty_at, unifier_solves, most_general_at, no_solution}
 use Rattle.isa_typing.proofs.Lacking.{not_left, not_right, Lacks, AllLack, OfTypes, solved_lacks}
 use Rattle.isa_typing.proofs.Noted.{or_first, or_last, new_not_taken, new_other, new_not_empty, AllNoted, noted_left, noted_right, types_noted, own_noted}
@@ -170,26 +168,8 @@ general_term taken r Us ns l f (App g w) h k = λ i. App (general_term taken r U
 
 -- 5. What the call needs
 
-unifies_both : (r : List TypeEntry) (ds es : List (Ty × Ty)) → Unifies r ds → Unifies r es → Unifies r (ds ++ es)
-unifies_both r [] es p q = q
-unifies_both r (d ∷ ds) es p q = (p.0, unifies_both r ds es p.1 q)
-
-unifies_reversed : (r : List TypeEntry) (es : List (Ty × Ty)) → Unifies r es → Unifies r (reverse es)
-unifies_reversed r [] u = tt
-unifies_reversed r (e ∷ es) u = subst (Unifies r) (sym (reverse-append (e ∷ []) es)) (unifies_both r (reverse es) (e ∷ []) (unifies_reversed r es u.1) (u.0, tt))
-
-unifies_back : (r : List TypeEntry) (es : List (Ty × Ty)) → Unifies r (reverse es) → Unifies r es
-unifies_back r es u = subst (Unifies r) (reverse-reverse es) (unifies_reversed r (reverse es) u)
-
-general_of_reversed : (es : List (Ty × Ty)) (q : List TypeEntry) → IsMostGeneral (reverse es) q → IsMostGeneral es q
+pub general_of_reversed : (es : List (Ty × Ty)) (q : List TypeEntry) → IsMostGeneral (reverse es) q → IsMostGeneral es q
 general_of_reversed es q g = record { unifies = unifies_back q es g.unifies; general = λ r u T. g.general r (unifies_reversed r es u) T }
-
--- a most general unifier of the pairs in the other order is one of the equations
-pub general_of_pairs : (ps : List TypePair) (es : List (Ty × Ty)) (q : List TypeEntry) → map pair_of ps ≡ es → IsMostGeneral (stack_of ps) q → IsMostGeneral es q
-general_of_pairs ps es q e g = subst (λ ds. IsMostGeneral ds q) e (general_of_reversed (map pair_of ps) q g)
-
-pub none_of_pairs : (ps : List TypePair) (es : List (Ty × Ty)) → map pair_of ps ≡ es → ((q : List TypeEntry) → Unifies q (stack_of ps) → ⊥) → (q : List TypeEntry) → Unifies q es → ⊥
-none_of_pairs ps es e none q u = none q (unifies_reversed q (map pair_of ps) (subst (Unifies q) (sym e) u))
 
 -- without a unifier there is no typing
 pub no_typing : (declared : Declared) (u : Raw) → ((q : List TypeEntry) → Unifies q (equations_of declared u) → ⊥) → HasNoTyping declared u

@@ -6,5 +6,7 @@ pub mod BinderLists
 pub mod NewNames
 pub mod TextNames
 pub mod Naming
+pub mod Found
+pub mod Indexes
 pub mod Principal
 pub mod Laws

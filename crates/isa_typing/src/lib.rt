@@ -2,11 +2,15 @@
 #![tactic(auto)]
 
 mod error;
+mod indexing;
 mod inferred;
 mod laws;
 mod marks;
 mod naming;
+mod open_types;
 mod principal;
+mod resolving;
+mod solving;
 mod text_names;
 
 pub use error::InferError;

@@ -1,9 +1,8 @@
 //! The principal term of a text.
 
-ghost use Rattle.std.specs.Prelude.{◌≡◌, List, IfOk, IfSome, IfNone, map};
+ghost use Rattle.std.specs.Prelude.{◌≡◌, List, IfOk, IfSome, IfNone};
 ghost use Rattle.isa_terms.specs.declared.inst.TypeEntry.{TypeEntry};
-ghost use Rattle.isa_unify.specs.TypeStacks.{pair_of};
-ghost use Rattle.isa_unify.specs.TypeUnification.{IsMostGeneral, Unifies};
+ghost use Rattle.isa_unify.specs.TypeUnification.{Unifies};
 ghost use Rattle.isa_typing.specs.Scopes.{declared_in};
 ghost use Rattle.isa_typing.specs.Inference.{equations_of};
 ghost use Rattle.isa_typing.specs.Naming.{IsNamed, IsSolved};
@@ -11,41 +10,29 @@ ghost use Rattle.isa_typing.specs.TextNames.{names_in};
 ghost use Rattle.isa_typing.specs.Principal.{Infers};
 
 use crate::error::InferError;
+use crate::indexing::index_of;
 use crate::inferred::{Binders, inferred};
 use crate::naming::{entries_for, new_names, thawed_term};
+use crate::open_types::open_types;
+use crate::resolving::term_under;
+use crate::solving::solution_of;
 use crate::text_names::note_names;
 use indexmap::IndexMap;
 use isa_raw::RawTerm;
-use isa_terms::{Name, Names, Term, Typ, TypeEntry, inst_term, norm, type_unknowns_of};
-use isa_unify::{TypePair, unify_type_pairs};
+use isa_terms::{Name, Names, Term, Typ, norm};
 use std::alloc::{AllocError, Global};
 
-/// The equations as pairs of types.
-fn pairs_of(alloc: Global, equations: &[(Typ, Typ)]) -> Result<Vec<TypePair>, AllocError>
-    ensures { IfOk result (λ pairs. map pair_of pairs.items ≡ equations.now) }
-{
-    let mut pairs = Vec::new(alloc);
-    for equation in equations {
-        pairs.push(TypePair {
-            left: equation.0.copy()?,
-            right: equation.1.copy()?,
-        })?;
-    }
-    Ok(pairs)
-}
-
 /// The term with its open types named, by names that aren't taken, and as the text has it.
-#[tactic(auto, using(crate::proofs::FirstFree::named_of_parts))]
 fn named_term(alloc: Global, solved: Term, taken: Names) -> Result<Term, AllocError>
     ensures { IfOk result (λ p. IsNamed taken solved p) }
 {
-    let mut terms = Vec::new(alloc);
-    terms.push(solved.copy()?)?;
-    let unknowns = type_unknowns_of(alloc, terms.as_slice())?;
+    let unknowns = open_types(alloc, &solved)?;
     let names = new_names(alloc, taken, unknowns.len())?;
     let entries = entries_for(alloc, unknowns.as_slice(), names.as_slice())?;
-    let named = inst_term(alloc, entries.as_slice(), &[], &solved)?;
-    thawed_term(alloc, &named)
+    let index = index_of(alloc, entries.as_slice())?;
+    let named = term_under(alloc, &index, &solved)?;
+    let term = thawed_term(alloc, &named)?;
+    Ok(term)
 }
 
 /// The names of the text's type variables.
@@ -61,18 +48,7 @@ fn names_in(
     Ok(names)
 }
 
-/// A most general unifier of the equations, if they have one.
-#[tactic(auto, using(crate::proofs::MostGeneral::general_of_pairs, crate::proofs::MostGeneral::none_of_pairs))]
-fn unifier_of(alloc: Global, equations: &[(Typ, Typ)]) -> Result<Option<Vec<TypeEntry>>, AllocError>
-    ensures found { IfOk result (λ found. IfSome found (λ q. IsMostGeneral equations.now q.items)) }
-    ensures none { IfOk result (λ found. IfNone found ((q : List TypeEntry) → Unifies q equations.now → ⊥)) }
-{
-    let pairs = pairs_of(alloc, equations)?;
-    unify_type_pairs(alloc, pairs)
-}
-
 /// The term under a most general unifier of its equations, if they have one.
-#[tactic(auto, using(crate::proofs::MostGeneral::solved_by_unifier))]
 fn solved_term(
     alloc: Global,
     constants: &IndexMap<Name, Typ>,
@@ -91,9 +67,14 @@ fn solved_term(
         raw,
         &mut equations,
     )?;
-    match unifier_of(alloc, equations.as_slice())? {
+    // The equations of a term's parts are solved before its own.
+    equations.reverse();
+    match solution_of(alloc, equations)? {
         None => Ok(None),
-        Some(unifier) => Ok(Some(inst_term(alloc, unifier.as_slice(), &[], &term)?)),
+        Some(found) => {
+            let solved = term_under(alloc, &found, &term)?;
+            Ok(Some(solved))
+        }
     }
 }
 
