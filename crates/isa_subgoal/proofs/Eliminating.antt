@@ -13,7 +13,7 @@ use Rattle.isa_kernel.specs.Inferences.{Answers, has_type, implies_eliminated}
 use Rattle.isa_kernel.proofs.Members.{bares, Member-left, Member-right}
 use Rattle.isa_subgoal.specs.Premises.{implies, premises, conclusion, rule_of}
 use Rattle.isa_subgoal.specs.Elimination.{conclusion_unknown, elimination_of}
-use Rattle.isa_subgoal.specs.Steps.{eliminated, introduced, eliminated_into}
+use Rattle.isa_subgoal.specs.Private.Steps.{eliminated, introduced, eliminated_into}
 use Rattle.isa_subgoal.proofs.Counts.{parts_made}
 use Rattle.isa_subgoal.proofs.Stating.{bases_none}
 use Rattle.isa_subgoal.proofs.Deriving.{ArePropositions, tm_eq_same, has_type_of, implies_proposition, propositions_append, derived_propositions}

@@ -21,9 +21,9 @@ use Rattle.isa_kernel.specs.Theorem.{Theorem}
 use Rattle.isa_kernel.proofs.Fill.{Var, types, filled, fill, fill_below, fill_above, fill_typed, get_past, get_own, within_length, one_more}
 use Rattle.isa_subgoal.specs.declared.lift.Parameter.{Parameter}
 use Rattle.isa_subgoal.specs.Premises.{implies}
-use Rattle.isa_subgoal.specs.Reshaping.{opened}
+use Rattle.isa_subgoal.specs.Private.Reshaping.{opened}
 use Rattle.isa_subgoal.specs.Lift.{over_types, applied, lift, types_under}
-use Rattle.isa_subgoal.specs.Lifting.{lifted_entries}
+use Rattle.isa_subgoal.specs.Private.Lifting.{lifted_entries}
 use Rattle.isa_subgoal.proofs.Entries.{term_set_keeps, term_set_has}
 use Rattle.isa_subgoal.proofs.Instancing.{empty_ty}
 use Rattle.isa_subgoal.proofs.Opening.{frees, opened_is}

@@ -17,7 +17,8 @@ use Rattle.isa_terms.proofs.NormalForms.{norm_same}
 use Rattle.isa_kernel.specs.Inferences.{Answers, has_type, typed_as, keeps, instantiated}
 use Rattle.isa_kernel.specs.declared.inference.InferenceError.{InferenceError}
 use Rattle.isa_kernel.specs.Theorem.{Theorem}
-use Rattle.isa_subgoal.specs.Renumbering.{renumbered_type, renumbered_types, renumbered, renumbered_rule, type_numbers, all_type_numbers, numbers_in_types, numbers_in, renumbered_by, Renumbers}
+use Rattle.isa_subgoal.specs.Renumbering.{renumbered_type, renumbered_types, renumbered, renumbered_rule, Renumbers}
+use Rattle.isa_subgoal.specs.Private.Renumbering.{type_numbers, all_type_numbers, numbers_in_types, numbers_in, renumbered_by}
 use Rattle.isa_kernel.specs.Derived.{renamed}
 use Rattle.isa_subgoal.proofs.Entries.{term_set_keeps, term_set_has}
 use Rattle.isa_subgoal.proofs.Stating.{renamed_is, renamed_same}
