@@ -1,7 +1,7 @@
 -- Premises that are eliminated, or introduced, one after the other, and all at once.
 use Rattle.std.specs.Prelude.{option_and_then, Result}
 use Rattle.std.proofs.Common.{◌≡◌, List, [], ◌∷◌, Bool, true, false, cond, ◌||◌, ◌&&◌, Option, Some, None, refl, sym, ap, ◌∙◌, subst, append-nil}
-use Rattle.isa_terms.specs.Terms.{Tm, bare}
+use Rattle.isa_terms.specs.Terms.{Tm}
 use Rattle.isa_terms.specs.Equal.{tm_eq}
 use Rattle.isa_terms.specs.Sets.{has, missing, joined, without}
 use Rattle.isa_terms.specs.Typing.{type_at}
@@ -13,7 +13,7 @@ use Rattle.isa_kernel.specs.declared.base.BaseEntry.{BaseEntry}
 use Rattle.isa_kernel.specs.declared.inference.InferenceError.{InferenceError}
 use Rattle.isa_kernel.specs.Axioms.{joined_bases}
 use Rattle.isa_kernel.specs.Theorem.{Theorem, IsDerived}
-use Rattle.isa_kernel.specs.Inferences.{Answers, has_type, assumed, implies_introduced, implies_eliminated}
+use Rattle.isa_kernel.specs.Inferences.{Answers, has_type, assumed, implies_introduced}
 use Rattle.isa_kernel.specs.Derived.{are_propositions, discharged, conclusion_behind, with_premises, undischarged}
 use Rattle.isa_kernel.proofs.Parts.{imp_made}
 use Rattle.isa_kernel.proofs.Preserved.{imp_both}

@@ -1,6 +1,6 @@
 -- The inferences on premises keep the base of a rule.
 use Rattle.std.specs.Prelude.{not}
-use Rattle.std.proofs.Common.{◌≡◌, length, ◌&&◌, List, [], ◌∷◌, ◌++◌, map, Bool, true, false, cond, Option, Some, None, refl, sym, ap, ◌∙◌, subst, append-nil}
+use Rattle.std.proofs.Common.{◌≡◌, length, ◌&&◌, List, [], ◌∷◌, map, Bool, true, false, cond, Option, Some, None, sym, ap, ◌∙◌, append-nil}
 use Rattle.isa_terms.specs.Terms.{Tm}
 use Rattle.isa_terms.specs.Equal.{tm_eq}
 use Rattle.isa_terms.specs.Sets.{joined, without}
@@ -9,7 +9,6 @@ use Rattle.isa_terms.specs.Instance.{Instance, in_tms, instance_of}
 use Rattle.isa_terms.proofs.Functions.{bind_some, cond_some}
 use Rattle.isa_kernel.specs.Logic.{prop, imp, all}
 use Rattle.isa_kernel.specs.Forms.{imp_parts, quantifier_parts, free_parts, at}
-use Rattle.isa_kernel.specs.declared.base.BaseEntry.{BaseEntry}
 use Rattle.isa_kernel.specs.Axioms.{joined_bases}
 use Rattle.isa_kernel.specs.Theorem.{Theorem}
 use Rattle.isa_kernel.specs.Inferences.{has_type, keeps, assumed, implies_introduced, implies_eliminated, forall_introduced, forall_eliminated, instantiated}

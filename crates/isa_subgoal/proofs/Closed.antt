@@ -1,5 +1,5 @@
 -- The inferences of the calls, one after the other, give what the calls promise, and none where these refuse.
-use Rattle.std.specs.Prelude.{option_and_then, Result}
+use Rattle.std.specs.Prelude.{option_and_then}
 use Rattle.std.proofs.Common.{◌≡◌, inl, inr, List, [], ◌∷◌, ◌++◌, map, Bool, true, false, cond, ◌&&◌, ◌||◌, append-nil, Option, Some, None, refl, sym, ap, ◌∙◌, subst}
 use Rattle.isa_terms.specs.Terms.{Tm, bare}
 use Rattle.isa_terms.specs.Equal.{tm_eq}
@@ -19,7 +19,7 @@ use Rattle.isa_kernel.specs.Axioms.{joined_bases}
 use Rattle.isa_kernel.specs.Derivation.{Member}
 use Rattle.isa_kernel.specs.Theorem.{Theorem, IsDerived}
 use Rattle.isa_kernel.specs.Inferences.{has_type, assumed, implies_eliminated}
-use Rattle.isa_kernel.specs.Derived.{renamed, are_propositions, behind_premises, discharged, conclusion_behind, with_premises, undischarged}
+use Rattle.isa_kernel.specs.Derived.{renamed, are_propositions, behind_premises, conclusion_behind, with_premises}
 use Rattle.isa_kernel.proofs.Parts.{imp_made}
 use Rattle.isa_kernel.proofs.Sound.{has_type_is}
 use Rattle.isa_kernel.proofs.Members.{Member-left, Member-right}

@@ -1,37 +1,36 @@
 -- The inferences that lift a rule answer the lifted rule.
 use Rattle.std.specs.Prelude.{option_and_then, Result, Ok, Err}
-use Rattle.std.proofs.Common.{◌≡◌, inl, inr, ℕ, zero, suc, ◌+◌, ◌<◌, ◌≤◌, max, arith, length, List, [], ◌∷◌, ◌++◌, map, Bool, true, false, cond, ◌||◌, Option, Some, None, refl, sym, ap, ◌∙◌, subst, append-nil}
+use Rattle.std.proofs.Common.{◌≡◌, ℕ, ◌+◌, ◌<◌, ◌≤◌, arith, length, List, [], ◌∷◌, ◌++◌, map, Bool, true, false, cond, ◌||◌, Option, Some, None, refl, sym, ap, ◌∙◌, subst, append-nil}
 use Rattle.isa_terms.specs.Types.{Ty}
 use Rattle.isa_terms.specs.Terms.{Tm, Const, Free, Unknown, Bound, Abs, App, bare}
-use Rattle.isa_terms.specs.Equal.{tm_eq}
 use Rattle.isa_terms.specs.Replace.{put}
-use Rattle.isa_terms.specs.Binding.{occurs, occurs_in, close_at}
+use Rattle.isa_terms.specs.Binding.{occurs_in, close_at}
 use Rattle.isa_terms.specs.Normal.{IsNormal}
 use Rattle.isa_terms.specs.Sets.{has, joined}
 use Rattle.isa_terms.specs.Instances.{Each}
 use Rattle.isa_terms.proofs.Equal.{ty_decides}
 use Rattle.isa_terms.proofs.Bare.{close_bare}
 use Rattle.isa_terms.proofs.Typed.{Typed, TConst, TAbs, TApp, type_of_typed, typed_of_type}
-use Rattle.isa_kernel.specs.Logic.{prop, imp, all, IsProposition}
+use Rattle.isa_kernel.specs.Logic.{prop, imp, all}
 use Rattle.isa_kernel.specs.declared.base.BaseEntry.{BaseEntry}
 use Rattle.isa_kernel.specs.Axioms.{propositions, joined_bases}
-use Rattle.isa_kernel.specs.Derivation.{Derives, Within}
+use Rattle.isa_kernel.specs.Derivation.{Derives}
 use Rattle.isa_kernel.specs.Theorem.{Theorem, IsDerived}
 use Rattle.isa_kernel.specs.declared.inference.InferenceError.{InferenceError}
-use Rattle.isa_kernel.specs.Inferences.{Answers, assumed, implies_eliminated, forall_introduced, instantiated}
+use Rattle.isa_kernel.specs.Inferences.{Answers, implies_eliminated, forall_introduced, instantiated}
 use Rattle.isa_kernel.proofs.Members.{bares}
 use Rattle.isa_kernel.proofs.Fill.{Var, types, fill, fill_typed, close_fill}
 use Rattle.isa_kernel.proofs.Preserved.{binary_typed}
 use Rattle.isa_kernel.proofs.Closed.{fill_none}
 use Rattle.isa_kernel.proofs.Quantifier.{quantifier}
 use Rattle.isa_subgoal.specs.declared.lift.Parameter.{Parameter}
-use Rattle.isa_subgoal.specs.Premises.{implies, premises, conclusion, rule_form, rule_of}
+use Rattle.isa_subgoal.specs.Premises.{implies, premises, conclusion, rule_form}
 use Rattle.isa_subgoal.specs.Private.Steps.{introduced, raised_by}
 use Rattle.isa_kernel.specs.Derived.{renamed}
 use Rattle.isa_subgoal.specs.Private.Reshaping.{opened, colons}
 use Rattle.isa_subgoal.specs.Lift.{quantified, lift, lift_over, lifted_prop, lifted_rule, types_under, Lifts}
 use Rattle.isa_subgoal.specs.Private.Lifting.{longest_name, variables_from, turned, lifted_entries, raised_at, specialized, quantified_over, met_over, lifted_over, lifted_by}
-use Rattle.isa_subgoal.proofs.Deriving.{ArePropositions, tm_eq_same, has_type_of, derived_propositions, implies_typed, implies_proposition}
+use Rattle.isa_subgoal.proofs.Deriving.{ArePropositions, tm_eq_same, has_type_of, derived_propositions}
 use Rattle.isa_subgoal.proofs.Counts.{parts_made}
 use Rattle.isa_subgoal.proofs.Splitting.{premises_all, same_length}
 use Rattle.isa_subgoal.proofs.Cutting.{more_hyps, fewer_hyps, fewer_none, introduced_is, more_within, raised_by_is}

@@ -1,10 +1,10 @@
 -- No inference refuses where the unknowns of a normal rule get other numbers.
 use Rattle.std.specs.Prelude.{is_some, not, option_and_then, IfOk, Result, Ok, Err}
-use Rattle.std.proofs.Common.{◌≡◌, ℕ, ◌+◌, ◌<◌, arith, length, List, [], ◌∷◌, map, Bool, true, false, cond, ◌||◌, ◌&&◌, nat_eq, Option, Some, None, unwrap_or, refl, sym, ap, ◌∙◌, subst}
+use Rattle.std.proofs.Common.{◌≡◌, ℕ, ◌+◌, ◌<◌, arith, length, List, [], ◌∷◌, Bool, true, false, cond, ◌||◌, ◌&&◌, nat_eq, Option, Some, None, unwrap_or, refl, sym, ap, ◌∙◌, subst}
 use Rattle.std.proofs.lemmas.Bool.Decides.{Decides-eqb}
 use Rattle.std.specs.Cmp.Lexicographic.{bytes_decides}
 use Rattle.isa_terms.specs.Types.{Ty, Tys, TyCon, TyFixed, TyUnknown, NoTys, MoreTys}
-use Rattle.isa_terms.specs.Terms.{Tm, Const, Free, Unknown, Bound, Abs, App, bare}
+use Rattle.isa_terms.specs.Terms.{Tm, Const, Free, Unknown, Bound, Abs, App}
 use Rattle.isa_terms.specs.Equal.{name_eq, ty_eq}
 use Rattle.isa_terms.specs.Norm.{norm, loose}
 use Rattle.isa_terms.specs.Normal.{redex, IsHead, IsNormal}

@@ -1,6 +1,6 @@
 -- Rules whose unknowns have other numbers, so that they share none with a state.
 -- Source: renaming a rule apart by the indices of its unknowns, as Isabelle's `incr_indexes` (Paulson, "The foundation of a generic theorem prover", 1989).
-use Rattle.std.specs.Prelude.{◌≡◌, ℕ, ◌+◌, List, [], Option, Some, Result}
+use Rattle.std.specs.Prelude.{◌≡◌, ℕ, ◌+◌, [], Some, Result}
 use Rattle.isa_terms.specs.Types.{Ty, Tys, TyCon, TyFixed, TyUnknown, NoTys, MoreTys}
 use Rattle.isa_terms.specs.Terms.{Tm, Const, Free, Unknown, Bound, Abs, App}
 use Rattle.isa_terms.specs.Normal.{IsNormal}

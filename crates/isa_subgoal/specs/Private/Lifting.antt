@@ -8,11 +8,11 @@ use Rattle.isa_kernel.specs.Forms.{◌>>=◌}
 use Rattle.isa_kernel.specs.Theorem.{Theorem}
 use Rattle.isa_kernel.specs.Inferences.{assumed, implies_eliminated, forall_introduced, forall_eliminated, instantiated}
 use Rattle.isa_subgoal.specs.declared.lift.Parameter.{Parameter}
-use Rattle.isa_subgoal.specs.Premises.{premises, conclusion, rule_form}
+use Rattle.isa_subgoal.specs.Premises.{premises, rule_form}
 use Rattle.isa_kernel.specs.Derived.{renamed}
 use Rattle.isa_subgoal.specs.Private.Steps.{introduced, raised_by}
 use Rattle.isa_subgoal.specs.Private.Reshaping.{opened, colons}
-use Rattle.isa_subgoal.specs.Lift.{lift, lift_over, lifted_prop}
+use Rattle.isa_subgoal.specs.Lift.{lift}
 
 -- the greatest length of the name of a free variable
 abbrev pub longest_name : Tm → ℕ

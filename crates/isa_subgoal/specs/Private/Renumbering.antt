@@ -1,6 +1,6 @@
 -- The inferences that raise the numbers of a rule's unknowns: the entries of the instance, and the steps.
 -- Source: renaming a rule apart by the indices of its unknowns, as Isabelle's `incr_indexes` (Paulson, "The foundation of a generic theorem prover", 1989).
-use Rattle.std.specs.Prelude.{ℕ, ◌+◌, List, [], Option, Some}
+use Rattle.std.specs.Prelude.{ℕ, ◌+◌, List, [], Option}
 use Rattle.isa_terms.specs.Types.{Ty, Tys, TyCon, TyFixed, TyUnknown, NoTys, MoreTys}
 use Rattle.isa_terms.specs.Terms.{Tm, Const, Free, Unknown, Bound, Abs, App}
 use Rattle.isa_terms.specs.Instance.{set_type, set_term}

@@ -1,4 +1,4 @@
-use Rattle.std.proofs.Common.{rules, ◌≡◌, length, arith, ap, ◌∙◌}
+use Rattle.std.proofs.Common.{rules, ◌≡◌, length, arith, ap}
 use Rattle.isa_subgoal.proofs.Renumbered.{renumbers, renumbered_theorem}
 use Rattle.isa_subgoal.proofs.renumbering.renumber_checked.Goals as goal
 
