@@ -1,6 +1,6 @@
-use Rattle.std.proofs.Common.{rules, ◌≡◌, length, arith, ap, ◌∙◌}
+use Rattle.std.proofs.Common.{rules, ◌≡◌, length, arith, ap}
 use Rattle.isa_subgoal.proofs.Renumbered.{renumbers, renumbered_theorem}
-use Rattle.isa_subgoal.proofs.renumbering.renumber_rule.Goals as goal
+use Rattle.isa_subgoal.proofs.renumbering.renumber_checked.Goals as goal
 
 pub returns-clause-theorem : goal.returns-clause-theorem
 returns-clause-theorem c =

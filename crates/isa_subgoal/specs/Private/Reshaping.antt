@@ -1,11 +1,11 @@
 -- The inferences that bring a subgoal into its form.
--- Source: Isabelle's normal form of rules with nested `!!`s and `==>`s, as by its `norm_hhf` (The Isabelle/Isar Implementation Manual, "Object-level rules"); here each subgoal is cut by the rule that it follows from what is in the form.
-use Rattle.std.specs.Prelude.{ℕ, zero, suc, ◌+◌, ◌-◌, nat_lt, List, [], ◌∷◌, ◌++◌, slice_get, unwrap_or, length, if◌then◌else◌, Option, Some, None}
+-- Source: Isabelle's normal form of rules with nested `!!`s and `==>`s, as by its `norm_hhf` (The Isabelle/Isar Implementation Manual, "Object-level rules"); here each subgoal is met by the rule that it follows from what is in the form.
+use Rattle.std.specs.Prelude.{ℕ, zero, suc, ◌+◌, ◌-◌, nat_lt, List, [], ◌∷◌, ◌++◌, slice_get, unwrap_or, length, map, Bool, true, ◌&&◌, if◌then◌else◌, Option, Some, None}
 use Rattle.isa_terms.specs.Terms.{Tm, Const, Free, Unknown, Bound, Abs, App}
 use Rattle.isa_kernel.specs.Forms.{◌>>=◌, imp_parts, quantifier_parts}
 use Rattle.isa_kernel.specs.Theorem.{Theorem}
-use Rattle.isa_kernel.specs.Inferences.{assumed, implies_introduced, forall_introduced, forall_eliminated, instantiated}
-use Rattle.isa_subgoal.specs.Steps.{eliminated, cut}
+use Rattle.isa_kernel.specs.Inferences.{assumed, implies_introduced, implies_eliminated, forall_introduced, forall_eliminated, instantiated}
+use Rattle.isa_subgoal.specs.Private.Steps.{eliminated, introduced}
 use Rattle.isa_subgoal.specs.Shape.{is_in_form, spelled, moved, shaped}
 
 -- the terms vs, the innermost first, in the place of the binders round k binders
@@ -56,11 +56,27 @@ regaining t = do
   rule ← implies_introduced (moved t) whole
   instantiated (record { types = []; terms = [] }) rule
 
--- the theorem with each of the subgoals ts behind the premises us brought into the form, by a cut for each that has it not
--- none where a subgoal that has not the form doesn't follow from what is in the form by these inferences, or where the cut gives none
-unfoldable pub reshaped_by : List Tm → List Tm → Theorem → Option Theorem
-reshaped_by us [] th = Some th
-reshaped_by us (t ∷ ts) th = if is_in_form t then reshaped_by (us ++ t ∷ []) ts th else do
-  rule ← regaining t
-  next ← cut us (shaped t ∷ []) th rule
-  reshaped_by (us ++ shaped t ∷ []) ts next
+-- the subgoal under the one hypothesis that is what it is brought into
+unfoldable pub met_form : Tm → Option Theorem
+met_form s = if is_in_form s then assumed s else do
+  rule ← regaining s
+  eliminated (shaped s ∷ []) rule
+
+-- what is behind the premises, each of which is met by what it is brought into
+unfoldable pub met_forms : List Tm → Theorem → Option Theorem
+met_forms [] th = Some th
+met_forms (s ∷ ss) th = do
+  met ← met_form s
+  next ← implies_eliminated th met
+  met_forms ss next
+
+-- the theorem with each of its premises brought into the form
+unfoldable pub reshaped_by : List Tm → Theorem → Option Theorem
+reshaped_by ss th = do
+  core ← met_forms ss th
+  introduced (map shaped ss) core
+
+-- whether each has the form
+abbrev pub are_in_form : List Tm → Bool
+are_in_form [] = true
+are_in_form (s ∷ ss) = is_in_form s && are_in_form ss

@@ -8,11 +8,11 @@ use Rattle.isa_kernel.specs.Forms.{◌>>=◌}
 use Rattle.isa_kernel.specs.Theorem.{Theorem}
 use Rattle.isa_kernel.specs.Inferences.{assumed, implies_eliminated, forall_introduced, forall_eliminated, instantiated}
 use Rattle.isa_subgoal.specs.declared.lift.Parameter.{Parameter}
-use Rattle.isa_subgoal.specs.Premises.{premises, conclusion, rule_form}
+use Rattle.isa_subgoal.specs.Premises.{premises, rule_form}
 use Rattle.isa_kernel.specs.Derived.{renamed}
-use Rattle.isa_subgoal.specs.Steps.{introduced, raised}
-use Rattle.isa_subgoal.specs.Reshaping.{opened, colons}
-use Rattle.isa_subgoal.specs.Lift.{lift, lift_over, lifted_prop}
+use Rattle.isa_subgoal.specs.Private.Steps.{introduced, raised_by}
+use Rattle.isa_subgoal.specs.Private.Reshaping.{opened, colons}
+use Rattle.isa_subgoal.specs.Lift.{lift}
 
 -- the greatest length of the name of a free variable
 abbrev pub longest_name : Tm → ℕ
@@ -45,7 +45,7 @@ unfoldable pub raised_at : List Parameter → List Tm → List Tm → Theorem �
 raised_at xs vs hs th = do
   rule ← instantiated (record { types = []; terms = lifted_entries xs vs th.prop [] }) th
   parts ← rule_form (length (premises th.prop)) rule
-  raised (map (opened vs 0) hs) parts.0 rule
+  raised_by (map (opened vs 0) hs) parts.0 rule
 
 -- from `!!x1 .. xk. P`, P at the terms vs in their order
 unfoldable pub specialized : List Tm → Theorem → Option Theorem

@@ -25,8 +25,8 @@ introduced (p ∷ ps) th = do
 
 -- cut of a rule into a premise, as Isabelle's `RS` and `COMP` do once both are unified: the conclusion of the rule meets the premise behind us, and the rule's premises bs come in its place
 -- none where th has not the premises us and one more, where the rule has not the premises bs, or where its conclusion is not that premise
-unfoldable pub cut : List Tm → List Tm → Theorem → Theorem → Option Theorem
-cut us bs th rule = do
+unfoldable pub cut_by : List Tm → List Tm → Theorem → Theorem → Option Theorem
+cut_by us bs th rule = do
   front ← eliminated us th
   met ← eliminated bs rule
   middle ← implies_eliminated front met
@@ -35,8 +35,8 @@ cut us bs th rule = do
 
 -- rotation of premises, as by Isabelle's `rotate_prems` and `permute_prems`: of the leading blocks us and vs the second one comes in front
 -- none where th has not the premises us and then vs
-unfoldable pub rotated : List Tm → List Tm → Theorem → Option Theorem
-rotated us vs th = do
+unfoldable pub rotated_by : List Tm → List Tm → Theorem → Option Theorem
+rotated_by us vs th = do
   a ← eliminated us th
   b ← eliminated vs a
   c ← introduced us b
@@ -53,8 +53,8 @@ met_under hs (p ∷ ps) th = do
 
 -- lifting of a rule over assumptions, as by Isabelle's `lift_rule` at a subgoal without parameters: each of the premises ps, and what is behind them, comes under the assumptions hs
 -- none where th has not the premises ps, or where an assumption is no proposition
-unfoldable pub raised : List Tm → List Tm → Theorem → Option Theorem
-raised hs ps th = do
+unfoldable pub raised_by : List Tm → List Tm → Theorem → Option Theorem
+raised_by hs ps th = do
   core ← met_under hs ps th
   inner ← introduced hs core
   introduced (map (implies hs) ps) inner
