@@ -15,13 +15,13 @@ use Rattle.isa_goal.specs.Goals.{Goals, IsStanding, around}
 use Rattle.isa_subgoal.specs.Premises.{implies, premises, conclusion, rule_form, rule_of}
 use Rattle.isa_terms.specs.Unknowns.{unknowns_of}
 use Rattle.isa_goal.specs.Names.{set_terms}
-use Rattle.isa_subgoal.specs.Steps.{raised}
+use Rattle.isa_subgoal.specs.Rules.{raised}
 use Rattle.isa_goal.specs.Private.Raising.{raised_instance}
 use Rattle.isa_goal.specs.Matching.{matched, is_first_order}
 use Rattle.isa_goal.specs.Resolving.{apart, new_types, matching, under_assumptions}
 use Rattle.isa_subgoal.proofs.Deriving.{ArePropositions, implies_typed, propositions_right}
 use Rattle.isa_subgoal.proofs.Answering.{rule_parts, raised_derived}
-use Rattle.isa_subgoal.proofs.Cutting.{raised_is}
+use Rattle.isa_subgoal.proofs.Closed.{raised_is}
 use Rattle.isa_goal.proofs.Refining.{around_made, standing_propositions}
 use Rattle.isa_subgoal.proofs.Instancing.{instance_implies, instantiated_is}
 use Rattle.isa_subgoal.proofs.Splitting.{premises_all, same_length}

@@ -7,7 +7,7 @@ use Rattle.isa_kernel.specs.Forms.{◌>>=◌}
 use Rattle.isa_kernel.specs.Theorem.{Theorem}
 use Rattle.isa_kernel.specs.Inferences.{instantiated}
 use Rattle.isa_subgoal.specs.Premises.{rule_form}
-use Rattle.isa_subgoal.specs.Steps.{raised}
+use Rattle.isa_subgoal.specs.Rules.{raised}
 
 -- the instance of a rule of n premises, with these and the conclusion under the assumptions; none where the rule has no such instance, where that has hypotheses or fewer premises, or where an assumption is no proposition
 abbrev pub raised_instance : List Tm → ℕ → Instance → Theorem → Option Theorem
