@@ -3,9 +3,8 @@ use Rattle.std.proofs.Common.{◌≡◌, [], Bool, true, false, cond, ◌&&◌, 
 use Rattle.isa_terms.specs.Types.{Ty}
 use Rattle.isa_terms.specs.Terms.{Tm, Abs, App}
 use Rattle.isa_terms.specs.Equal.{ty_eq, tm_eq}
-use Rattle.isa_terms.specs.Typing.{type_at, function_of, function_parts}
+use Rattle.isa_terms.specs.Typing.{TypeFault, type_at, function_of, function_parts}
 use Rattle.isa_terms.specs.Binding.{occurs_in}
-use Rattle.isa_terms.specs.declared.typing.IllTyped.{IllTyped}
 use Rattle.isa_terms.proofs.Equal.{ty_decides}
 use Rattle.isa_terms.specs.Typing.{HasType}
 use Rattle.isa_kernel.specs.Logic.{prop}
@@ -21,14 +20,14 @@ pub cond_none : {A : Type 0} (b : Bool) (o : Option A) {y : A} → cond b None o
 cond_none true o e = cc
 cond_none false o e = (refl, e)
 
-pub typed_as_is : (r : Result Ty IllTyped) (T : Ty) → typed_as r T ≡ true → r ≡ Ok T
+pub typed_as_is : (r : Result Ty TypeFault) (T : Ty) → typed_as r T ≡ true → r ≡ Ok T
 typed_as_is (Ok S) T e = ap Ok ((ty_decides S T).0 e)
 typed_as_is (Err fault) T e = cc
 
 pub has_type_is : (t : Tm) (T : Ty) → has_type t T ≡ true → HasType t T
 has_type_is t T e = typed_as_is (type_at [] t) T e
 
-pub well_typed_is : (r : Result Ty IllTyped) (T : Ty) → well_typed r ≡ Some T → r ≡ Ok T
+pub well_typed_is : (r : Result Ty TypeFault) (T : Ty) → well_typed r ≡ Some T → r ≡ Ok T
 well_typed_is (Ok S) T e = cc
 well_typed_is (Err fault) T e = cc
 

@@ -6,9 +6,8 @@ use Rattle.std.proofs.lemmas.Bool.Decides.{Decides-eqb}
 use Rattle.isa_terms.specs.Types.{Ty, Tys, TyCon, TyFixed, TyUnknown, NoTys, MoreTys, list_of}
 use Rattle.isa_terms.specs.Terms.{Tm, Const, Free, Unknown, Bound, Abs, App}
 use Rattle.isa_terms.specs.Equal.{ty_eq}
-use Rattle.isa_terms.specs.Typing.{type_at}
+use Rattle.isa_terms.specs.Typing.{TypeFault, type_at}
 use Rattle.isa_terms.proofs.Equal.{ty_decides}
-use Rattle.isa_terms.specs.declared.typing.IllTyped.{IllTyped}
 use Rattle.isa_kernel.specs.Logic.{prop}
 use Rattle.isa_kernel.specs.TypeInstances.{is_instance}
 use Rattle.isa_kernel.specs.Theories.{arity_of, constant_type, axiom_prop, takes, stands_at, unknown_in_ty, unknown_in_tys, unknown_in, misfit_in_ty, misfit_in_tys, misfit_in, duplicate, no_prop}
@@ -89,12 +88,12 @@ module _ (ds : List Declaration) where
     typed T true n w e h = (n, w, e ∙ ap Ok ((ty_decides T prop).0 h))
     typed T false n w e h = (n, w, e, λ s. let t = (ty_decides T prop).1 s in cc (t, h))
 
-    refused : (d : Option Tm) (u m : Option (List ℕ)) (r : Result Ty IllTyped) → axiom_prop ds x ≡ d → unknown_in ds p ≡ u → misfit_in ds p ≡ m → type_at [] p ≡ r
+    refused : (d : Option Tm) (u m : Option (List ℕ)) (r : Result Ty TypeFault) → axiom_prop ds x ≡ d → unknown_in ds p ≡ u → misfit_in ds p ≡ m → type_at [] p ≡ r
         → IsRefusedFor ds x p (option_or (duplicate x (is_some d)) (option_or (option_map fail.Unknown u) (option_or (option_map fail.Misfit m) (no_prop r))))
     refused (Some q) u m r d e f g = ((q, d), refl)
     refused None (Some y) m r d e f g = (d, λ w. let k = (well p w).0 in cc (k, e))
     refused None None (Some y) r d e f g = (d, λ w. let k = (well p w).1 in cc (k, f))
-    refused None None None (Err fault) d e f g = (d, known p e f, g)
+    refused None None None (Err fault) d e f g = (d, known p e f, (fault, g, refl))
     refused None None None (Ok T) d e f g = typed T (ty_eq T prop) d (known p e f) g refl
 
     pub refused_for : IsRefusedFor ds x p (option_or (duplicate x (is_some (axiom_prop ds x))) (option_or (option_map fail.Unknown (unknown_in ds p)) (option_or (option_map fail.Misfit (misfit_in ds p)) (no_prop (type_at [] p)))))

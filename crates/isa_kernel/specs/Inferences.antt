@@ -3,7 +3,7 @@ use Rattle.std.specs.Prelude.{◌≡◌, ℕ, List, [], ◌∷◌, Option, Some,
 use Rattle.isa_terms.specs.Types.{Ty}
 use Rattle.isa_terms.specs.Terms.{Tm, Abs, App}
 use Rattle.isa_terms.specs.Equal.{ty_eq, tm_eq}
-use Rattle.isa_terms.specs.Typing.{type_at, function_of, function_parts}
+use Rattle.isa_terms.specs.Typing.{TypeFault, type_at, function_of, function_parts}
 use Rattle.isa_terms.specs.Replace.{replace}
 use Rattle.isa_terms.specs.Binding.{occurs_in, close}
 use Rattle.isa_terms.specs.Instance.{Instance, inst_ty, in_tms, instance_of}
@@ -11,7 +11,6 @@ use Rattle.isa_terms.specs.declared.inst.TypeEntry.{TypeEntry}
 use Rattle.isa_terms.specs.declared.inst.TermEntry.{TermEntry}
 use Rattle.isa_terms.specs.Generalize.{gen_tm, named_in}
 use Rattle.isa_terms.specs.Sets.{joined, without}
-use Rattle.isa_terms.specs.declared.typing.IllTyped.{IllTyped}
 use Rattle.isa_kernel.specs.Logic.{prop, imp, eq, all}
 use Rattle.isa_kernel.specs.Forms.{◌>>=◌, app_parts, abs_parts, is_last, imp_parts, eq_parts, quantifier_parts, at, free_parts}
 use Rattle.isa_kernel.specs.Axioms.{joined_bases}
@@ -20,7 +19,7 @@ use Rattle.isa_kernel.specs.declared.inference.InferenceError.{InferenceError}
 use Rattle.isa_kernel.specs.declared.inference.InferenceError.TheVariants.{Shape, Memory}
 
 -- whether a term of that type, if it is well typed, has the type T
-abbrev pub typed_as : Result Ty IllTyped → Ty → Bool
+abbrev pub typed_as : Result Ty TypeFault → Ty → Bool
 typed_as (Ok S) T = ty_eq S T
 typed_as (Err fault) T = false
 
@@ -29,7 +28,7 @@ abbrev pub has_type : Tm → Ty → Bool
 has_type t T = typed_as (type_at [] t) T
 
 -- the type of a well-typed term
-abbrev pub well_typed : Result Ty IllTyped → Option Ty
+abbrev pub well_typed : Result Ty TypeFault → Option Ty
 well_typed (Ok T) = Some T
 well_typed (Err fault) = None
 
@@ -40,7 +39,7 @@ Answers (Err Shape) wanted = wanted ≡ None
 Answers (Err Memory) wanted = Unit {0}
 
 -- the answer of a step that asks for a type
-abbrev pub TypedAs : Result Ty InferenceError → Result Ty IllTyped → Type 0
+abbrev pub TypedAs : Result Ty InferenceError → Result Ty TypeFault → Type 0
 TypedAs (Ok T) wanted = wanted ≡ Ok T
 TypedAs (Err Shape) wanted = well_typed wanted ≡ None
 TypedAs (Err Memory) wanted = Unit {0}

@@ -3,7 +3,7 @@
 use Rattle.std.specs.Prelude.{◌≡◌, ℕ, List, [], Option, Some, None, Err, Ok, length}
 use Rattle.isa_terms.specs.Types.{Ty, Tys, TyCon, TyFixed, TyUnknown, NoTys, MoreTys, list_of}
 use Rattle.isa_terms.specs.Terms.{Tm, Const, Free, Unknown, Bound, Abs, App}
-use Rattle.isa_terms.specs.Typing.{type_at}
+use Rattle.isa_terms.specs.Typing.{TypeFault, type_at, told}
 use Rattle.isa_terms.specs.Instance.{inst_ty}
 use Rattle.isa_terms.specs.declared.inst.TypeEntry.{TypeEntry}
 use Rattle.isa_kernel.specs.Logic.{prop, IsProposition}
@@ -47,7 +47,7 @@ IsRefusedFor ds x p None = (axiom_prop ds x ≡ None) × Well ds p × IsProposit
 IsRefusedFor ds x p (Some (Duplicate y)) = ((q : Tm) × (axiom_prop ds x ≡ Some q)) × (y ≡ x)
 IsRefusedFor ds x p (Some (fail.Unknown y)) = (axiom_prop ds x ≡ None) × (Well ds p → ⊥)
 IsRefusedFor ds x p (Some (Misfit y)) = (axiom_prop ds x ≡ None) × (Well ds p → ⊥)
-IsRefusedFor ds x p (Some (IllTyped fault)) = (axiom_prop ds x ≡ None) × Well ds p × (type_at [] p ≡ Err fault)
+IsRefusedFor ds x p (Some (IllTyped error)) = (axiom_prop ds x ≡ None) × Well ds p × ((fault : TypeFault) × (type_at [] p ≡ Err fault) × (error ≡ told fault))
 IsRefusedFor ds x p (Some (NotProp T)) = (axiom_prop ds x ≡ None) × Well ds p × (type_at [] p ≡ Ok T) × (T ≡ prop → ⊥)
 IsRefusedFor ds x p (Some Memory) = ⊥
 

@@ -4,8 +4,7 @@ use Rattle.std.specs.List.{slice_get}
 use Rattle.std.proofs.lemmas.Bool.Decides.{nat_tests}
 use Rattle.isa_terms.specs.Types.{Ty, Tys, TyCon, TyFixed, TyUnknown, NoTys, MoreTys}
 use Rattle.isa_terms.specs.Terms.{Tm, Const, Free, Unknown, Bound, Abs, App, bare}
-use Rattle.isa_terms.specs.Typing.{function_of, type_at}
-use Rattle.isa_terms.specs.declared.typing.IllTyped.{IllTyped}
+use Rattle.isa_terms.specs.Typing.{TypeFault, function_of, type_at}
 use Rattle.isa_terms.specs.Replace.{replace}
 use Rattle.isa_terms.specs.Norm.{loose, eta, norm}
 use Rattle.isa_terms.specs.Normal.{IsHead, IsNormal}
@@ -34,7 +33,7 @@ abbrev mutual
   costs NoTys = 1
   costs (MoreTys T Ts) = cost T + costs Ts
 
-abbrev pub ty_cost : Result Ty IllTyped → ℕ
+abbrev pub ty_cost : Result Ty TypeFault → ℕ
 ty_cost (Ok T) = cost T
 ty_cost (Err e) = 0
 

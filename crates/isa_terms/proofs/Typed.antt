@@ -5,10 +5,8 @@ use Rattle.std.proofs.lemmas.Bool.Decides.{nat_tests}
 use Rattle.isa_terms.specs.Types.{Ty}
 use Rattle.isa_terms.specs.Terms.{Tm, Const, Free, Unknown, Bound, Abs, App}
 use Rattle.isa_terms.specs.Equal.{ty_eq}
-use Rattle.isa_terms.specs.Typing.{type_at, function_of, function_parts, deeper, abs_type, app_type, given_type, bound_type}
+use Rattle.isa_terms.specs.Typing.{TypeFault, NotFunction, Differs, Loose, type_at, function_of, function_parts, deeper, abs_type, app_type, given_type, bound_type}
 use Rattle.isa_terms.specs.Replace.{raise, put}
-use Rattle.isa_terms.specs.declared.typing.IllTyped.{IllTyped}
-use Rattle.isa_terms.specs.declared.typing.IllTyped.TheVariants.{NotFunction, Differs, Loose, Memory}
 use Rattle.isa_terms.specs.declared.typing.Turn.TheVariants.{Fun, Arg, Body}
 use Rattle.isa_terms.proofs.Equal.{ty_decides}
 use Rattle.isa_terms.proofs.Functions.{function_made}
@@ -28,32 +26,29 @@ type_of_typed (TAbs {G} {x} {S} {T} {b} d) = ap (λ r. abs_type S (deeper Body r
 type_of_typed (TApp {G} {S} {T} {f} {a} d e) =
     (λ i. app_type (deeper Fun (type_of_typed d i)) (deeper Arg (type_of_typed e i))) ∙ ap (λ c. cond c (Ok T) (Err (Differs [] S S))) ((ty_decides S S).1 refl)
 
-abs_ok : (S : Ty) (r : Result Ty IllTyped) (U : Ty) → abs_type S (deeper Body r) ≡ Ok U → (B : Ty) × (r ≡ Ok B) × (function_of S B ≡ U)
+abs_ok : (S : Ty) (r : Result Ty TypeFault) (U : Ty) → abs_type S (deeper Body r) ≡ Ok U → (B : Ty) × (r ≡ Ok B) × (function_of S B ≡ U)
 abs_ok S (Ok B) U e = (B, refl, cc)
 abs_ok S (Err (NotFunction p h)) U e = cc
 abs_ok S (Err (Differs p w h)) U e = cc
 abs_ok S (Err (Loose p n)) U e = cc
-abs_ok S (Err Memory) U e = cc
 
 bound_ok : (n : ℕ) (o : Option Ty) (U : Ty) → bound_type n o ≡ Ok U → o ≡ Some U
 bound_ok n None U e = cc
 bound_ok n (Some T) U e = cc
 
-fun_ok : (r s : Result Ty IllTyped) (U : Ty) → app_type (deeper Fun r) s ≡ Ok U → (F : Ty) × (r ≡ Ok F) × (app_type (Ok F) s ≡ Ok U)
+fun_ok : (r s : Result Ty TypeFault) (U : Ty) → app_type (deeper Fun r) s ≡ Ok U → (F : Ty) × (r ≡ Ok F) × (app_type (Ok F) s ≡ Ok U)
 fun_ok (Ok F) s U e = (F, refl, e)
 fun_ok (Err (NotFunction p h)) s U e = cc
 fun_ok (Err (Differs p w h)) s U e = cc
 fun_ok (Err (Loose p n)) s U e = cc
-fun_ok (Err Memory) s U e = cc
 
-arg_ok : (F : Ty) (s : Result Ty IllTyped) (U : Ty) → app_type (Ok F) (deeper Arg s) ≡ Ok U → (A : Ty) × (s ≡ Ok A) × (given_type F (function_parts F) A ≡ Ok U)
+arg_ok : (F : Ty) (s : Result Ty TypeFault) (U : Ty) → app_type (Ok F) (deeper Arg s) ≡ Ok U → (A : Ty) × (s ≡ Ok A) × (given_type F (function_parts F) A ≡ Ok U)
 arg_ok F (Ok A) U e = (A, refl, e)
 arg_ok F (Err (NotFunction p h)) U e = cc
 arg_ok F (Err (Differs p w h)) U e = cc
 arg_ok F (Err (Loose p n)) U e = cc
-arg_ok F (Err Memory) U e = cc
 
-given_same : (S A : Ty) (T : Ty) (b : Bool) (w : Result Ty IllTyped) (U : Ty) → ty_eq S A ≡ b → w ≡ Err (Differs [] S A) → cond b (Ok T) w ≡ Ok U → (S ≡ A) × (T ≡ U)
+given_same : (S A : Ty) (T : Ty) (b : Bool) (w : Result Ty TypeFault) (U : Ty) → ty_eq S A ≡ b → w ≡ Err (Differs [] S A) → cond b (Ok T) w ≡ Ok U → (S ≡ A) × (T ≡ U)
 given_same S A T true w U h k e = ((ty_decides S A).0 h, cc)
 given_same S A T false w U h k e = cc
 

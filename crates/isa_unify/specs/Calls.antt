@@ -3,14 +3,14 @@ use Rattle.std.specs.Prelude.{◌≡◌, ℕ, ◌+◌, max, List, [], ◌∷◌,
 use Rattle.std.specs.declared.alloc.AllocError.{AllocError}
 use Rattle.isa_terms.specs.Types.{Ty}
 use Rattle.isa_terms.specs.Terms.{Tm, Const, Free, Unknown, Bound, Abs, App}
-use Rattle.isa_terms.specs.Typing.{type_at}
-use Rattle.isa_terms.specs.declared.typing.IllTyped.{IllTyped}
+use Rattle.isa_terms.specs.Typing.{TypeFault, type_at}
 use Rattle.isa_unify.specs.declared.equation.Equation.{Equation}
 use Rattle.isa_unify.specs.declared.unification.TermPair.{TermPair}
 use Rattle.isa_unify.specs.declared.unification.Unified.{Unified}
 use Rattle.isa_unify.specs.declared.unification.Unified.TheVariants.{Yes, No, Outside}
 use Rattle.isa_unify.specs.declared.progress.Answer.{Answer}
 use Rattle.isa_unify.specs.UnifyLaw.{IsMostGeneralFor, HaveNone, GoesOn}
+use Rattle.isa_unify.specs.PatternLaw.{NeedsMore}
 use Rattle.isa_unify.specs.declared.progress.Answer.TheVariants as answer
 use Rattle.isa_terms.specs.Entries.{Once}
 use Rattle.isa_terms.specs.Instance.{same_type_unknown, same_unknown}
@@ -35,7 +35,7 @@ abbrev pub equations_of : List TermPair → List Equation
 equations_of [] = []
 equations_of (p ∷ ps) = record { binders = []; left = p.left; right = p.right } ∷ equations_of ps
 
-abbrev pub if_ok : Result Ty IllTyped → Option Ty
+abbrev pub if_ok : Result Ty TypeFault → Option Ty
 if_ok (Ok T) = Some T
 if_ok (Err fault) = None
 
@@ -73,3 +73,10 @@ MayFollow (Ok (Yes s)) typ old new es = GoesOn typ old new es s
 MayFollow (Ok No) typ old new es = Unit {0}
 MayFollow (Ok Outside) typ old new es = Unit {0}
 MayFollow (Err memory) typ old new es = Unit {0}
+
+-- The answer is Outside only where more new unknowns are needed than there may be.
+abbrev pub IsInside : Result Unified AllocError → ℕ → List Equation → Type 0
+IsInside (Ok (Yes s)) old es = Unit {0}
+IsInside (Ok No) old es = Unit {0}
+IsInside (Ok Outside) old es = NeedsMore es old
+IsInside (Err memory) old es = Unit {0}

@@ -3,8 +3,7 @@ use Rattle.std.specs.Prelude.{ℕ, suc, ◌+◌, ◌-◌, Bool, true, false, ◌
 use Rattle.isa_terms.specs.Types.{Ty, Tys, TyCon, TyFixed, TyUnknown, NoTys, MoreTys}
 use Rattle.isa_terms.specs.Terms.{Tm, Const, Free, Unknown, Bound, Abs, App}
 use Rattle.isa_terms.specs.Equal.{name_eq}
-use Rattle.isa_terms.specs.Typing.{function_of, function_parts, type_at}
-use Rattle.isa_terms.specs.declared.typing.IllTyped.{IllTyped}
+use Rattle.isa_terms.specs.Typing.{TypeFault, function_of, function_parts, type_at}
 use Rattle.isa_terms.specs.Replace.{raise}
 use Rattle.isa_terms.specs.Norm.{eta, norm}
 use Rattle.isa_terms.specs.Instance.{find_type, find_term, inst_ty, inst_tm}
@@ -314,7 +313,7 @@ unfolding unify_step descend
 unified st = descend unify_step (λ s. weight s.equations) Outside (suc (all_unknowns_of st.equations + st.left)) st
 
 -- what has a type on both sides
-abbrev pub types_of : Result Ty IllTyped → Result Ty IllTyped → List (Ty × Ty) → List (Ty × Ty)
+abbrev pub types_of : Result Ty TypeFault → Result Ty TypeFault → List (Ty × Ty) → List (Ty × Ty)
 types_of (Ok S) (Ok T) rest = (S, T) ∷ rest
 types_of _ _ rest = rest
 
