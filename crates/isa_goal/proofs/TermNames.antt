@@ -24,7 +24,7 @@ number_least : (names : List (List ℕ)) (n : ℕ) → n ≤ next_number names n
 unfolding next_number
 number_least names n = among_least (length names) (λ m. is_named names (numbered m)) n
 
-number_same : (m n : ℕ) → m < 2 ^ 64 → n < 2 ^ 64 → numbered m ≡ numbered n → m ≡ n
+pub number_same : (m n : ℕ) → m < 2 ^ 64 → n < 2 ^ 64 → numbered m ≡ numbered n → m ≡ n
 unfolding numbered
 number_same m n l k e = decimal_injective m n l k (ap (drop 1) e)
 

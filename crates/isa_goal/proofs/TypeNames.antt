@@ -28,7 +28,7 @@ type_least : (names : List (List ℕ)) (n : ℕ) → n ≤ next_type_number name
 unfolding next_type_number
 type_least names n = among_least (length names) (λ m. is_named names (type_numbered m)) n
 
-type_number_same : (m n : ℕ) → m < 2 ^ 64 → n < 2 ^ 64 → type_numbered m ≡ type_numbered n → m ≡ n
+pub type_number_same : (m n : ℕ) → m < 2 ^ 64 → n < 2 ^ 64 → type_numbered m ≡ type_numbered n → m ≡ n
 unfolding type_numbered
 type_number_same m n l k e = decimal_injective m n l k (ap (drop 2) e)
 
