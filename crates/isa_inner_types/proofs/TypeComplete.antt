@@ -2,8 +2,8 @@
 use Rattle.std.proofs.Common.{◌≡◌, ℕ, ◌≤◌, ◌<◌, ◌+◌, ◌⊎◌, Bool, true, false, cond, nat_lt, nat_eq, max, List, [], ◌∷◌, ◌++◌, Option, None, Some, length, refl, sym, ap, subst, ◌∙◌, inl, inr, append_assoc, arith}
 use Rattle.isa_terms.specs.Types.{Ty, TyCon, TyFixed, TyUnknown, tys_of}
 use Rattle.isa_terms.specs.Typing.{function_of}
-use Rattle.isa_inner_types.specs.declared.token.TypeToken.{TypeToken}
-use Rattle.isa_inner_types.specs.declared.token.TypeToken.TheVariants as token
+use Rattle.isa_inner_types.specs.declared.token.TextToken.{TextToken}
+use Rattle.isa_inner_types.specs.declared.token.TextToken.TheVariants as token
 use Rattle.isa_inner_types.specs.declared.token.TypeRefusal.{TypeRefusal}
 use Rattle.isa_inner_types.specs.declared.token.TypeRefusal.TheVariants as refusal
 use Rattle.isa_inner_types.specs.TypeReading.{Outcome, Read, Refused, Place, Whole, Behind, Arguments, Domains, Step, Ends, Goes, Inside, and_then, limit, Right, Wrong, used, construct, functions_of, front, behind, closed, arguments, range, domains, step, Runs, at_end, type_text}
@@ -13,7 +13,7 @@ use Rattle.isa_inner_types.proofs.TypeOutcomes.{invert}
 use Rattle.isa_inner_types.proofs.TypeSteps.{behind_name, behind_end, first_argument, first_domain, next_argument, next_domain, to_function, to_functions}
 
 -- what comes of a part that ends the whole
-after_deep : (go : Ty → ℕ → List TypeToken → Step) (part o : Outcome) → Runs (and_then go part) o → IsDeep part → IsDeep o
+after_deep : (go : Ty → ℕ → List TextToken → Step) (part o : Outcome) → Runs (and_then go part) o → IsDeep part → IsDeep o
 after_deep go (Read T h rest) o x d = absurd d
 after_deep go (Refused refusal.Deep at) o x d = subst IsDeep (sym (invert (Ends (Refused refusal.Deep at)) o x)) tt
 after_deep go (Refused (refusal.Expected w) at) o x d = absurd d
@@ -21,10 +21,10 @@ after_deep go (Refused refusal.Undeclared at) o x d = absurd d
 after_deep go (Refused refusal.Arity at) o x d = absurd d
 after_deep go (Refused (refusal.Met n) at) o x d = absurd d
 
-after_read : (go : Ty → ℕ → List TypeToken → Step) (part o : Outcome) → Runs (and_then go part) o → (T : Ty) (h : ℕ) (later : List TypeToken) → part ≡ Read T h later → Runs (go T h later) o
+after_read : (go : Ty → ℕ → List TextToken → Step) (part o : Outcome) → Runs (and_then go part) o → (T : Ty) (h : ℕ) (later : List TextToken) → part ≡ Read T h later → Runs (go T h later) o
 after_read go part o x T h later e = subst (λ (u : Outcome). Runs (and_then go u) o) e x
 
-whole_runs : (d : ℕ) (ts : List TypeToken) (o : Outcome) → Runs (step (Whole d) ts) o → IsDeep o ⊎ Runs (front d ts) o
+whole_runs : (d : ℕ) (ts : List TextToken) (o : Outcome) → Runs (step (Whole d) ts) o → IsDeep o ⊎ Runs (front d ts) o
 whole_runs d ts o x = choice (nat_lt limit d) x
   where
     choice : (deep : Bool) → Runs (cond deep (Ends (Refused refusal.Deep ts)) (front d ts)) o → IsDeep o ⊎ Runs (front d ts) o
@@ -35,30 +35,30 @@ same_length : (n : ℕ) → nat_eq n n ≡ true
 same_length n = grind arith
 
 -- a constructor with as many arguments as it takes
-constructs : (c : List ℕ) (Ts : List Ty) (at : List TypeToken) (go : Ty → Step) (o : Outcome) → Runs (construct c (Some (length Ts)) Ts at go) o → Runs (go (TyCon c (tys_of Ts))) o
+constructs : (c : List ℕ) (Ts : List Ty) (at : List TextToken) (go : Ty → Step) (o : Outcome) → Runs (construct c (Some (length Ts)) Ts at go) o → Runs (go (TyCon c (tys_of Ts))) o
 constructs c Ts at go o x = subst (λ (b : Bool). Runs (used (cond b Right (Wrong refusal.Arity)) c Ts at go) o) (same_length (length Ts)) x
 
-abbrev Stands : ℕ → Ty → List TypeToken → Outcome → Type 0
+abbrev Stands : ℕ → Ty → List TextToken → Outcome → Type 0
 Stands d T rest o = (h : ℕ) × Runs (behind d T h rest) o
 
-abbrev Finished : Ty → List TypeToken → Outcome → Type 0
+abbrev Finished : Ty → List TextToken → Outcome → Type 0
 Finished T rest o = (h : ℕ) × (o ≡ Read T h rest)
 
-closes : (d : ℕ) (Ts : List Ty) (c : List ℕ) (h : ℕ) (rest : List TypeToken) (o : Outcome) → Runs (closed d Ts h (token.Name c (Some (length Ts)) ∷ rest)) o → Stands d (TyCon c (tys_of Ts)) rest o
+closes : (d : ℕ) (Ts : List Ty) (c : List ℕ) (h : ℕ) (rest : List TextToken) (o : Outcome) → Runs (closed d Ts h (token.Name c (Some (length Ts)) ∷ rest)) o → Stands d (TyCon c (tys_of Ts)) rest o
 closes d [] c h rest o x = (h, invert (Goes (Behind d (TyCon c (tys_of [])) h) rest) o (constructs c [] (token.Name c (Some (length {A = Ty} [])) ∷ rest) (behind_name d h rest) o x))
 closes d (T ∷ []) c h rest o x =
     let y = invert (Goes (Behind d T h) (token.Name c (Some (length (T ∷ []))) ∷ rest)) o x in
     (h, invert (Goes (Behind d (TyCon c (tys_of (T ∷ []))) h) rest) o (constructs c (T ∷ []) (token.Name c (Some (length (T ∷ []))) ∷ rest) (behind_name d h rest) o y))
 closes d (T ∷ S ∷ Ts) c h rest o x = (h, invert (Goes (Behind d (TyCon c (tys_of (T ∷ S ∷ Ts))) h) rest) o (constructs c (T ∷ S ∷ Ts) (token.Name c (Some (length (T ∷ S ∷ Ts))) ∷ rest) (behind_name d h rest) o x))
 
-abbrev further_argument : ℕ → List Ty → (ℕ → ℕ) → Ty → ℕ → List TypeToken → Step
+abbrev further_argument : ℕ → List Ty → (ℕ → ℕ) → Ty → ℕ → List TextToken → Step
 further_argument d Us f T h later = Goes (Arguments d (Us ++ T ∷ []) (f h)) later
 
-abbrev further_domain : ℕ → List Ty → (ℕ → ℕ) → Ty → ℕ → List TypeToken → Step
+abbrev further_domain : ℕ → List Ty → (ℕ → ℕ) → Ty → ℕ → List TextToken → Step
 further_domain d Us f T h later = Goes (Domains d (Us ++ T ∷ []) (f h)) later
 
 -- behind `=>`
-arrow_at : (d : ℕ) (T : Ty) (h : ℕ) (later : List TypeToken) (U : Ty) (rest : List TypeToken) (o : Outcome) → ((e : ℕ) (part : Outcome) → Runs (step (Whole e) later) part → IsDeep part ⊎ Finished U rest part) → Runs (behind d T h (token.Arrow ∷ later)) o → IsDeep o ⊎ Finished (function_of T U) rest o
+arrow_at : (d : ℕ) (T : Ty) (h : ℕ) (later : List TextToken) (U : Ty) (rest : List TextToken) (o : Outcome) → ((e : ℕ) (part : Outcome) → Runs (step (Whole e) later) part → IsDeep part ⊎ Finished U rest part) → Runs (behind d T h (token.Arrow ∷ later)) o → IsDeep o ⊎ Finished (function_of T U) rest o
 arrow_at d T h later U rest o f x = choice (nat_lt (d + h) limit) x
   where
     choice : (b : Bool) → Runs (cond b (Inside (Whole (d + 1)) later (and_then (to_function T h))) (Ends (Refused refusal.Deep (token.Arrow ∷ later)))) o → IsDeep o ⊎ Finished (function_of T U) rest o
@@ -71,7 +71,7 @@ arrow_at d T h later U rest o f x = choice (nat_lt (d + h) limit) x
         ]
 
 mutual
-  phrase_at : (ts : List TypeToken) (T : Ty) (rest : List TypeToken) → TypePhrase ts T rest → IsNoName rest → IsNoArrow rest → (d : ℕ) (o : Outcome) → Runs (step (Whole d) ts) o → IsDeep o ⊎ Finished T rest o
+  phrase_at : (ts : List TextToken) (T : Ty) (rest : List TextToken) → TypePhrase ts T rest → IsNoName rest → IsNoArrow rest → (d : ℕ) (o : Outcome) → Runs (step (Whole d) ts) o → IsDeep o ⊎ Finished T rest o
   phrase_at _ _ _ (Alone T ts rest p) n a d o x =
       elim (closed_at ts T rest p d o x) [
         | inl z ↦ inl z
@@ -96,7 +96,7 @@ mutual
         ]
       ]
 
-  closed_at : (ts : List TypeToken) (T : Ty) (rest : List TypeToken) → Closed ts T rest → (d : ℕ) (o : Outcome) → Runs (step (Whole d) ts) o → IsDeep o ⊎ Stands d T rest o
+  closed_at : (ts : List TextToken) (T : Ty) (rest : List TextToken) → Closed ts T rest → (d : ℕ) (o : Outcome) → Runs (step (Whole d) ts) o → IsDeep o ⊎ Stands d T rest o
   closed_at _ _ _ (Fixed x rest) d o r =
       elim (whole_runs d (token.Variable x ∷ rest) o r) [ inl z ↦ inl z | inr y ↦ inr (0, invert (Goes (Behind d (TyFixed x) 0) rest) o y) ]
   closed_at _ _ _ (Open x rest) d o r =
@@ -129,12 +129,12 @@ mutual
             ]
       ]
 
-  arguments_at : (ts : List TypeToken) (Ts : List Ty) (at : List TypeToken) → Several ts Ts at → (rest : List TypeToken) → at ≡ token.Close ∷ rest → (d : ℕ) (Us : List Ty) (f : ℕ → ℕ) (o : Outcome) → Runs (Inside (Whole (d + 1)) ts (and_then (further_argument d Us f))) o → IsDeep o ⊎ ((h : ℕ) × Runs (closed d (Us ++ Ts) h rest) o)
+  arguments_at : (ts : List TextToken) (Ts : List Ty) (at : List TextToken) → Several ts Ts at → (rest : List TextToken) → at ≡ token.Close ∷ rest → (d : ℕ) (Us : List Ty) (f : ℕ → ℕ) (o : Outcome) → Runs (Inside (Whole (d + 1)) ts (and_then (further_argument d Us f))) o → IsDeep o ⊎ ((h : ℕ) × Runs (closed d (Us ++ Ts) h rest) o)
   arguments_at _ _ _ (Last T ts at p) rest e d Us f o x =
       let i = invert (Inside (Whole (d + 1)) ts (and_then (further_argument d Us f))) o x in
       elim (phrase_at ts T at p (subst IsNoName (sym e) tt) (subst IsNoArrow (sym e) tt) (d + 1) i.0 i.1) [
         | inl z ↦ inl (after_deep (further_argument d Us f) i.0 o i.2 z)
-        | inr w ↦ inr (f w.0, invert (Goes (Arguments d (Us ++ T ∷ []) (f w.0)) (token.Close ∷ rest)) o (subst (λ (l : List TypeToken). Runs (Goes (Arguments d (Us ++ T ∷ []) (f w.0)) l) o) e (after_read (further_argument d Us f) i.0 o i.2 T w.0 at w.1)))
+        | inr w ↦ inr (f w.0, invert (Goes (Arguments d (Us ++ T ∷ []) (f w.0)) (token.Close ∷ rest)) o (subst (λ (l : List TextToken). Runs (Goes (Arguments d (Us ++ T ∷ []) (f w.0)) l) o) e (after_read (further_argument d Us f) i.0 o i.2 T w.0 at w.1)))
       ]
   arguments_at _ _ _ (Next T Ts ts later at p q) rest e d Us f o x =
       let i = invert (Inside (Whole (d + 1)) ts (and_then (further_argument d Us f))) o x in
@@ -148,12 +148,12 @@ mutual
             ]
       ]
 
-  domains_at : (ts : List TypeToken) (Ts : List Ty) (at : List TypeToken) → Several ts Ts at → (rest : List TypeToken) → at ≡ token.CloseList ∷ rest → (d : ℕ) (Us : List Ty) (f : ℕ → ℕ) (o : Outcome) → Runs (Inside (Whole (d + 2)) ts (and_then (further_domain d Us f))) o → IsDeep o ⊎ ((h : ℕ) × Runs (range d (Us ++ Ts) h rest) o)
+  domains_at : (ts : List TextToken) (Ts : List Ty) (at : List TextToken) → Several ts Ts at → (rest : List TextToken) → at ≡ token.CloseList ∷ rest → (d : ℕ) (Us : List Ty) (f : ℕ → ℕ) (o : Outcome) → Runs (Inside (Whole (d + 2)) ts (and_then (further_domain d Us f))) o → IsDeep o ⊎ ((h : ℕ) × Runs (range d (Us ++ Ts) h rest) o)
   domains_at _ _ _ (Last T ts at p) rest e d Us f o x =
       let i = invert (Inside (Whole (d + 2)) ts (and_then (further_domain d Us f))) o x in
       elim (phrase_at ts T at p (subst IsNoName (sym e) tt) (subst IsNoArrow (sym e) tt) (d + 2) i.0 i.1) [
         | inl z ↦ inl (after_deep (further_domain d Us f) i.0 o i.2 z)
-        | inr w ↦ inr (f w.0, invert (Goes (Domains d (Us ++ T ∷ []) (f w.0)) (token.CloseList ∷ rest)) o (subst (λ (l : List TypeToken). Runs (Goes (Domains d (Us ++ T ∷ []) (f w.0)) l) o) e (after_read (further_domain d Us f) i.0 o i.2 T w.0 at w.1)))
+        | inr w ↦ inr (f w.0, invert (Goes (Domains d (Us ++ T ∷ []) (f w.0)) (token.CloseList ∷ rest)) o (subst (λ (l : List TextToken). Runs (Goes (Domains d (Us ++ T ∷ []) (f w.0)) l) o) e (after_read (further_domain d Us f) i.0 o i.2 T w.0 at w.1)))
       ]
   domains_at _ _ _ (Next T Ts ts later at p q) rest e d Us f o x =
       let i = invert (Inside (Whole (d + 2)) ts (and_then (further_domain d Us f))) o x in

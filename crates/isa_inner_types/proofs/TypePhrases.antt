@@ -2,8 +2,8 @@
 use Rattle.std.proofs.Common.{◌≡◌, ℕ, ◌≤◌, ◌+◌, Bool, true, false, cond, nat_lt, nat_eq, max, List, [], ◌∷◌, ◌++◌, Option, None, Some, length, refl, sym, ap, subst, ◌∙◌, arith}
 use Rattle.isa_terms.specs.Types.{Ty, TyCon, TyFixed, TyUnknown, tys_of}
 use Rattle.isa_terms.specs.Typing.{function_of}
-use Rattle.isa_inner_types.specs.declared.token.TypeToken.{TypeToken}
-use Rattle.isa_inner_types.specs.declared.token.TypeToken.TheVariants as token
+use Rattle.isa_inner_types.specs.declared.token.TextToken.{TextToken}
+use Rattle.isa_inner_types.specs.declared.token.TextToken.TheVariants as token
 use Rattle.isa_inner_types.specs.declared.token.TypeRefusal.TheVariants as refusal
 use Rattle.isa_inner_types.specs.TypeReading.{Outcome, Read, Refused, Place, Whole, Behind, Arguments, Domains, Step, Ends, Goes, Inside, and_then, limit, Use, Right, Wrong, use_of, used, construct, functions_of, front, behind, closed, arguments, range, domains, step}
 use Rattle.isa_inner_types.specs.TypeGrammar.{TypePhrase, Alone, To, From, Closed, Fixed, Open, Named, Postfix, Tuple, Parenthesised, Several, Last, Next, ReadsTypes}
@@ -11,29 +11,29 @@ use Rattle.isa_inner_types.proofs.TypeOutcomes.{MeansStep, part_of, steps_mean}
 use Rattle.isa_inner_types.proofs.TypeSteps.{behind_name, first_argument, first_domain, next_argument, next_domain, to_function, to_functions}
 
 -- what an outcome of a place means in the grammar
-abbrev Means : Outcome → Place → List TypeToken → Type 0
+abbrev Means : Outcome → Place → List TextToken → Type 0
 Means (Refused why at) p ts = Unit {0}
 Means (Read T h rest) (Whole d) ts = TypePhrase ts T rest
-Means (Read T h rest) (Behind d left k) ts = (start : List TypeToken) → Closed start left ts → TypePhrase start T rest
-Means (Read T h rest) (Arguments d Ts k) ts = (start : List TypeToken) → Several start Ts ts → TypePhrase (token.Open ∷ start) T rest
-Means (Read T h rest) (Domains d Ts k) ts = (start : List TypeToken) → Several start Ts ts → TypePhrase (token.OpenList ∷ start) T rest
+Means (Read T h rest) (Behind d left k) ts = (start : List TextToken) → Closed start left ts → TypePhrase start T rest
+Means (Read T h rest) (Arguments d Ts k) ts = (start : List TextToken) → Several start Ts ts → TypePhrase (token.Open ∷ start) T rest
+Means (Read T h rest) (Domains d Ts k) ts = (start : List TextToken) → Several start Ts ts → TypePhrase (token.OpenList ∷ start) T rest
 
 -- one more type
-several_more : (start : List TypeToken) (Ts : List Ty) (at : List TypeToken) → Several start Ts at → (later : List TypeToken) → at ≡ token.Comma ∷ later → (T : Ty) (rest : List TypeToken) → TypePhrase later T rest → Several start (Ts ++ T ∷ []) rest
-several_more _ _ _ (Last S ts at p) later e T rest q = Next S (T ∷ []) ts later rest (subst (λ (l : List TypeToken). TypePhrase ts S l) e p) (Last T later rest q)
+several_more : (start : List TextToken) (Ts : List Ty) (at : List TextToken) → Several start Ts at → (later : List TextToken) → at ≡ token.Comma ∷ later → (T : Ty) (rest : List TextToken) → TypePhrase later T rest → Several start (Ts ++ T ∷ []) rest
+several_more _ _ _ (Last S ts at p) later e T rest q = Next S (T ∷ []) ts later rest (subst (λ (l : List TextToken). TypePhrase ts S l) e p) (Last T later rest q)
 several_more _ _ _ (Next S Ts ts us at p r) later e T rest q = Next S (Ts ++ T ∷ []) ts us rest p (several_more us Ts at r later e T rest q)
 
 -- the only type of a list
-only_of : (start : List TypeToken) (Ts : List Ty) (at : List TypeToken) → Several start Ts at → (T : Ty) → Ts ≡ T ∷ [] → TypePhrase start T at
+only_of : (start : List TextToken) (Ts : List Ty) (at : List TextToken) → Several start Ts at → (T : Ty) → Ts ≡ T ∷ [] → TypePhrase start T at
 only_of _ _ _ (Last S ts at p) T e = let same : S ≡ T = cc in subst (λ (U : Ty). TypePhrase ts U at) same p
 only_of _ _ _ (Next S Ts ts us at p r) T e = none us Ts at r (cc)
   where
-    none : (us : List TypeToken) (Ts : List Ty) (at : List TypeToken) → Several us Ts at → Ts ≡ [] → TypePhrase ts T at
+    none : (us : List TextToken) (Ts : List Ty) (at : List TextToken) → Several us Ts at → Ts ≡ [] → TypePhrase ts T at
     none _ _ _ (Last S ts at p) e = absurd cc
     none _ _ _ (Next S Ts ts us at p r) e = absurd cc
 
 -- a constructor that is used takes so many arguments
-constructed : (c : List ℕ) (n : Option ℕ) (Ts : List Ty) (at : List TypeToken) (go : Ty → Step) (T : Ty) (h : ℕ) (rest : List TypeToken) → MeansStep Means (construct c n Ts at go) (Read T h rest) → (n ≡ Some (length Ts)) × MeansStep Means (go (TyCon c (tys_of Ts))) (Read T h rest)
+constructed : (c : List ℕ) (n : Option ℕ) (Ts : List Ty) (at : List TextToken) (go : Ty → Step) (T : Ty) (h : ℕ) (rest : List TextToken) → MeansStep Means (construct c n Ts at go) (Read T h rest) → (n ≡ Some (length Ts)) × MeansStep Means (go (TyCon c (tys_of Ts))) (Read T h rest)
 constructed c None Ts at go T h rest g = absurd cc
 constructed c (Some k) Ts at go T h rest g = choice (nat_eq k (length Ts)) refl g
   where
@@ -41,7 +41,7 @@ constructed c (Some k) Ts at go T h rest g = choice (nat_eq k (length Ts)) refl 
     choice true e g = let same : k ≡ length Ts = grind arith in (ap Some same, g)
     choice false e g = absurd cc
 
-front_means : (d : ℕ) (ts : List TypeToken) (T : Ty) (h : ℕ) (rest : List TypeToken) → MeansStep Means (front d ts) (Read T h rest) → TypePhrase ts T rest
+front_means : (d : ℕ) (ts : List TextToken) (T : Ty) (h : ℕ) (rest : List TextToken) → MeansStep Means (front d ts) (Read T h rest) → TypePhrase ts T rest
 front_means d [] T h rest g = absurd cc
 front_means d (token.Name c n ∷ ts) T h rest g =
     let k = constructed c n [] (token.Name c n ∷ ts) (behind_name d 0 ts) T h rest g in
@@ -59,9 +59,9 @@ front_means d (token.CloseList ∷ ts) T h rest g = absurd cc
 front_means d (token.Comma ∷ ts) T h rest g = absurd cc
 front_means d (token.Arrow ∷ ts) T h rest g = absurd cc
 front_means d (token.Refused k ∷ ts) T h rest g = absurd cc
-front_means d (token.Other ∷ ts) T h rest g = absurd cc
+front_means d (token.Other x ∷ ts) T h rest g = absurd cc
 
-whole_means : (d : ℕ) (ts : List TypeToken) (T : Ty) (h : ℕ) (rest : List TypeToken) → MeansStep Means (step (Whole d) ts) (Read T h rest) → TypePhrase ts T rest
+whole_means : (d : ℕ) (ts : List TextToken) (T : Ty) (h : ℕ) (rest : List TextToken) → MeansStep Means (step (Whole d) ts) (Read T h rest) → TypePhrase ts T rest
 whole_means d ts T h rest g = choice (nat_lt limit d) g
   where
     choice : (deep : Bool) → MeansStep Means (cond deep (Ends (Refused refusal.Deep ts)) (front d ts)) (Read T h rest) → TypePhrase ts T rest
@@ -69,13 +69,13 @@ whole_means d ts T h rest g = choice (nat_lt limit d) g
     choice false g = front_means d ts T h rest g
 
 -- nothing goes on
-ended : (start ts : List TypeToken) (left T : Ty) (k h : ℕ) (rest : List TypeToken) → Closed start left ts → Read T h rest ≡ Read left k ts → TypePhrase start T rest
+ended : (start ts : List TextToken) (left T : Ty) (k h : ℕ) (rest : List TextToken) → Closed start left ts → Read T h rest ≡ Read left k ts → TypePhrase start T rest
 ended start ts left T k h rest p g =
     let same : T ≡ left = cc in
     let rests : rest ≡ ts = cc in
-    subst (λ (U : Ty). TypePhrase start U rest) (sym same) (subst (λ (l : List TypeToken). TypePhrase start left l) (sym rests) (Alone left start ts p))
+    subst (λ (U : Ty). TypePhrase start U rest) (sym same) (subst (λ (l : List TextToken). TypePhrase start left l) (sym rests) (Alone left start ts p))
 
-behind_means : (d : ℕ) (left : Ty) (k : ℕ) (ts : List TypeToken) (T : Ty) (h : ℕ) (rest : List TypeToken) → MeansStep Means (behind d left k ts) (Read T h rest) → (start : List TypeToken) → Closed start left ts → TypePhrase start T rest
+behind_means : (d : ℕ) (left : Ty) (k : ℕ) (ts : List TextToken) (T : Ty) (h : ℕ) (rest : List TextToken) → MeansStep Means (behind d left k ts) (Read T h rest) → (start : List TextToken) → Closed start left ts → TypePhrase start T rest
 behind_means d left k [] T h rest g start p = ended start [] left T k h rest p g
 behind_means d left k (token.Name c n ∷ ts) T h rest g start p =
     let q = constructed c n (left ∷ []) (token.Name c n ∷ ts) (behind_name d k ts) T h rest g in
@@ -96,12 +96,12 @@ behind_means d left k (token.Arrow ∷ ts) T h rest g start p = choice (nat_lt (
         let e : Read T h rest ≡ Read (function_of left q.T) (max k q.h + 1) q.later = q.goes_on_so in
         let same : T ≡ function_of left q.T = cc in
         let rests : q.later ≡ rest = cc in
-        subst (λ (U : Ty). TypePhrase start U rest) (sym same) (To left q.T start ts rest p (subst (λ (l : List TypeToken). TypePhrase ts q.T l) rests q.reads))
+        subst (λ (U : Ty). TypePhrase start U rest) (sym same) (To left q.T start ts rest p (subst (λ (l : List TextToken). TypePhrase ts q.T l) rests q.reads))
 behind_means d left k (token.Refused i ∷ ts) T h rest g start p = ended start (token.Refused i ∷ ts) left T k h rest p g
-behind_means d left k (token.Other ∷ ts) T h rest g start p = ended start (token.Other ∷ ts) left T k h rest p g
+behind_means d left k (token.Other x ∷ ts) T h rest g start p = ended start (token.Other x ∷ ts) left T k h rest p g
 
 -- what stands in parentheses
-closed_means : (d : ℕ) (Ts : List Ty) (k : ℕ) (ts : List TypeToken) (T : Ty) (h : ℕ) (rest : List TypeToken) → MeansStep Means (closed d Ts k ts) (Read T h rest) → (start : List TypeToken) → Several start Ts (token.Close ∷ ts) → TypePhrase (token.Open ∷ start) T rest
+closed_means : (d : ℕ) (Ts : List Ty) (k : ℕ) (ts : List TextToken) (T : Ty) (h : ℕ) (rest : List TextToken) → MeansStep Means (closed d Ts k ts) (Read T h rest) → (start : List TextToken) → Several start Ts (token.Close ∷ ts) → TypePhrase (token.Open ∷ start) T rest
 closed_means d (S ∷ []) k ts T h rest g start p = g (token.Open ∷ start) (Parenthesised S start ts (only_of start (S ∷ []) (token.Close ∷ ts) p S refl))
 closed_means d [] k [] T h rest g start p = absurd cc
 closed_means d [] k (token.Name c n ∷ ts) T h rest g start p =
@@ -116,7 +116,7 @@ closed_means d [] k (token.CloseList ∷ ts) T h rest g start p = absurd cc
 closed_means d [] k (token.Comma ∷ ts) T h rest g start p = absurd cc
 closed_means d [] k (token.Arrow ∷ ts) T h rest g start p = absurd cc
 closed_means d [] k (token.Refused i ∷ ts) T h rest g start p = absurd cc
-closed_means d [] k (token.Other ∷ ts) T h rest g start p = absurd cc
+closed_means d [] k (token.Other x ∷ ts) T h rest g start p = absurd cc
 closed_means d (S ∷ U ∷ Ts) k [] T h rest g start p = absurd cc
 closed_means d (S ∷ U ∷ Ts) k (token.Name c n ∷ ts) T h rest g start p =
     let q = constructed c n (S ∷ U ∷ Ts) (token.Name c n ∷ ts) (behind_name d k ts) T h rest g in
@@ -130,9 +130,9 @@ closed_means d (S ∷ U ∷ Ts) k (token.CloseList ∷ ts) T h rest g start p = 
 closed_means d (S ∷ U ∷ Ts) k (token.Comma ∷ ts) T h rest g start p = absurd cc
 closed_means d (S ∷ U ∷ Ts) k (token.Arrow ∷ ts) T h rest g start p = absurd cc
 closed_means d (S ∷ U ∷ Ts) k (token.Refused i ∷ ts) T h rest g start p = absurd cc
-closed_means d (S ∷ U ∷ Ts) k (token.Other ∷ ts) T h rest g start p = absurd cc
+closed_means d (S ∷ U ∷ Ts) k (token.Other x ∷ ts) T h rest g start p = absurd cc
 
-arguments_mean : (d : ℕ) (Ts : List Ty) (k : ℕ) (ts : List TypeToken) (T : Ty) (h : ℕ) (rest : List TypeToken) → MeansStep Means (arguments d Ts k ts) (Read T h rest) → (start : List TypeToken) → Several start Ts ts → TypePhrase (token.Open ∷ start) T rest
+arguments_mean : (d : ℕ) (Ts : List Ty) (k : ℕ) (ts : List TextToken) (T : Ty) (h : ℕ) (rest : List TextToken) → MeansStep Means (arguments d Ts k ts) (Read T h rest) → (start : List TextToken) → Several start Ts ts → TypePhrase (token.Open ∷ start) T rest
 arguments_mean d Ts k [] T h rest g start p = absurd cc
 arguments_mean d Ts k (token.Name c n ∷ ts) T h rest g start p = absurd cc
 arguments_mean d Ts k (token.Variable x ∷ ts) T h rest g start p = absurd cc
@@ -146,9 +146,9 @@ arguments_mean d Ts k (token.Comma ∷ ts) T h rest g start p =
     q.goes_on_so start (several_more start Ts (token.Comma ∷ ts) p ts refl q.T q.later q.reads)
 arguments_mean d Ts k (token.Arrow ∷ ts) T h rest g start p = absurd cc
 arguments_mean d Ts k (token.Refused i ∷ ts) T h rest g start p = absurd cc
-arguments_mean d Ts k (token.Other ∷ ts) T h rest g start p = absurd cc
+arguments_mean d Ts k (token.Other x ∷ ts) T h rest g start p = absurd cc
 
-range_means : (d : ℕ) (Ts : List Ty) (k : ℕ) (ts : List TypeToken) (T : Ty) (h : ℕ) (rest : List TypeToken) → MeansStep Means (range d Ts k ts) (Read T h rest) → (start : List TypeToken) → Several start Ts (token.CloseList ∷ ts) → TypePhrase (token.OpenList ∷ start) T rest
+range_means : (d : ℕ) (Ts : List Ty) (k : ℕ) (ts : List TextToken) (T : Ty) (h : ℕ) (rest : List TextToken) → MeansStep Means (range d Ts k ts) (Read T h rest) → (start : List TextToken) → Several start Ts (token.CloseList ∷ ts) → TypePhrase (token.OpenList ∷ start) T rest
 range_means d Ts k [] T h rest g start p = absurd cc
 range_means d Ts k (token.Name c n ∷ ts) T h rest g start p = absurd cc
 range_means d Ts k (token.Variable x ∷ ts) T h rest g start p = absurd cc
@@ -163,11 +163,11 @@ range_means d Ts k (token.Arrow ∷ ts) T h rest g start p =
     let e : Read T h rest ≡ Read (functions_of Ts q.T) (max k (q.h + 1)) q.later = q.goes_on_so in
     let same : T ≡ functions_of Ts q.T = cc in
     let rests : q.later ≡ rest = cc in
-    subst (λ (U : Ty). TypePhrase (token.OpenList ∷ start) U rest) (sym same) (From Ts q.T start ts rest p (subst (λ (l : List TypeToken). TypePhrase ts q.T l) rests q.reads))
+    subst (λ (U : Ty). TypePhrase (token.OpenList ∷ start) U rest) (sym same) (From Ts q.T start ts rest p (subst (λ (l : List TextToken). TypePhrase ts q.T l) rests q.reads))
 range_means d Ts k (token.Refused i ∷ ts) T h rest g start p = absurd cc
-range_means d Ts k (token.Other ∷ ts) T h rest g start p = absurd cc
+range_means d Ts k (token.Other x ∷ ts) T h rest g start p = absurd cc
 
-domains_mean : (d : ℕ) (Ts : List Ty) (k : ℕ) (ts : List TypeToken) (T : Ty) (h : ℕ) (rest : List TypeToken) → MeansStep Means (domains d Ts k ts) (Read T h rest) → (start : List TypeToken) → Several start Ts ts → TypePhrase (token.OpenList ∷ start) T rest
+domains_mean : (d : ℕ) (Ts : List Ty) (k : ℕ) (ts : List TextToken) (T : Ty) (h : ℕ) (rest : List TextToken) → MeansStep Means (domains d Ts k ts) (Read T h rest) → (start : List TextToken) → Several start Ts ts → TypePhrase (token.OpenList ∷ start) T rest
 domains_mean d Ts k [] T h rest g start p = absurd cc
 domains_mean d Ts k (token.Name c n ∷ ts) T h rest g start p = absurd cc
 domains_mean d Ts k (token.Variable x ∷ ts) T h rest g start p = absurd cc
@@ -181,9 +181,9 @@ domains_mean d Ts k (token.Comma ∷ ts) T h rest g start p =
     q.goes_on_so start (several_more start Ts (token.Comma ∷ ts) p ts refl q.T q.later q.reads)
 domains_mean d Ts k (token.Arrow ∷ ts) T h rest g start p = absurd cc
 domains_mean d Ts k (token.Refused i ∷ ts) T h rest g start p = absurd cc
-domains_mean d Ts k (token.Other ∷ ts) T h rest g start p = absurd cc
+domains_mean d Ts k (token.Other x ∷ ts) T h rest g start p = absurd cc
 
-place_means : (p : Place) (ts : List TypeToken) (o : Outcome) → MeansStep Means (step p ts) o → Means o p ts
+place_means : (p : Place) (ts : List TextToken) (o : Outcome) → MeansStep Means (step p ts) o → Means o p ts
 place_means p ts (Refused w at) g = tt
 place_means (Whole d) ts (Read T h rest) g = whole_means d ts T h rest g
 place_means (Behind d left k) ts (Read T h rest) g = behind_means d left k ts T h rest g

@@ -7,4 +7,4 @@ mod token;
 
 pub use laws::{no_type_dead_end, one_type_outcome, reads_types};
 pub use reading::{Fail, read_type, read_whole_type};
-pub use token::{TypeRefusal, TypeToken, TypeWanted};
+pub use token::{TermToken, TextToken, TypeRefusal, TypeWanted};

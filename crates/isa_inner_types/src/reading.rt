@@ -4,7 +4,7 @@ ghost use Rattle.isa_terms.specs.Types.{Ty};
 ghost use Rattle.isa_inner_types.specs.TypeReading.{Read, Refused, Whole, Behind, Arguments, Domains, Step, Ends, Goes, Runs, step, front, behind, closed, arguments, range, domains, construct, functions_of, why, limit, type_text};
 ghost use Rattle.isa_inner_types.specs.TypeAnswers.{FailsBy, IfRefused, IsNoArrow, IsNoClose, IsNoCloseList, IsNoComma, IsNoName, IsNoSingle, IsRefusal, Leads};
 
-use crate::token::{TypeRefusal, TypeToken, TypeWanted};
+use crate::token::{TextToken, TypeRefusal, TypeWanted};
 use isa_terms::{Name, Typ, TypNode, Typs, function_type};
 use std::alloc::{AllocError, AllocFailed, Global};
 
@@ -15,7 +15,7 @@ const LIMIT: u64 = 500;
 #[derive(Clone, Copy)]
 pub enum Fail<'a> {
     Memory,
-    Refused(TypeRefusal, &'a [TypeToken]),
+    Refused(TypeRefusal, &'a [TextToken]),
 }
 
 impl<'a> From<AllocError> for Fail<'a> {
@@ -41,10 +41,10 @@ impl<'a, T: Drop> From<AllocFailed<T>> for Fail<'a> {
 }
 
 /// A type that was read, how much deeper than it its deepest place is, and the tokens behind it.
-pub type TypeRead<'a> = (Typ, u64, &'a [TypeToken]);
+pub type TypeRead<'a> = (Typ, u64, &'a [TextToken]);
 
 /// Reads a whole text as a type.
-pub fn read_whole_type<'a>(alloc: Global, tokens: &'a [TypeToken]) -> Result<Typ, Fail<'a>>
+pub fn read_whole_type<'a>(alloc: Global, tokens: &'a [TextToken]) -> Result<Typ, Fail<'a>>
     ensures { MatchResult result
         (λ T. (height : ℕ) × Runs (type_text tokens.now) (Read T height []))
         (λ fail. FailsBy fail (type_text tokens.now)) }
@@ -61,8 +61,8 @@ pub fn read_whole_type<'a>(alloc: Global, tokens: &'a [TypeToken]) -> Result<Typ
 pub fn read_type<'a>(
     alloc: Global,
     depth: u64,
-    tokens: &'a [TypeToken],
-) -> Result<(Typ, u64, &'a [TypeToken]), Fail<'a>>
+    tokens: &'a [TextToken],
+) -> Result<(Typ, u64, &'a [TextToken]), Fail<'a>>
     ensures read { MatchResult result
         (λ read. Runs (step (Whole depth) tokens.now) (Read read.0 read.1 read.2.now))
         (λ fail. FailsBy fail (step (Whole depth) tokens.now)) }
@@ -76,12 +76,12 @@ pub fn read_type<'a>(
 }
 
 /// The refusal of these tokens, where this is wanted.
-fn refused<'a>(wanted: TypeWanted, tokens: &'a [TypeToken]) -> Fail<'a>
+fn refused<'a>(wanted: TypeWanted, tokens: &'a [TextToken]) -> Fail<'a>
     ensures { IsRefusal result (why wanted tokens.now) tokens.now }
 {
     match tokens.split_first() {
         None => Fail::Refused(TypeRefusal::Expected(wanted), tokens),
-        Some((TypeToken::Refused(number), _)) => {
+        Some((TextToken::Refused(number), _)) => {
             Fail::Refused(TypeRefusal::Met(*number), tokens)
         }
         Some(_) => Fail::Refused(TypeRefusal::Expected(wanted), tokens),
@@ -89,61 +89,61 @@ fn refused<'a>(wanted: TypeWanted, tokens: &'a [TypeToken]) -> Fail<'a>
 }
 
 /// The name that comes next, with its number of arguments, and the tokens behind it.
-fn name_next(tokens: &[TypeToken]) -> Option<(&Name, Option<usize>, &[TypeToken])>
+fn name_next(tokens: &[TextToken]) -> Option<(&Name, Option<usize>, &[TextToken])>
     ensures none { IfNone result (IsNoName tokens.now) }
-    ensures found { IfSome result (λ next. tokens.now ≡ TypeToken.Name next.0.now next.1 ∷ next.2.now) }
+    ensures found { IfSome result (λ next. tokens.now ≡ TextToken.Name next.0.now next.1 ∷ next.2.now) }
 {
     match tokens.split_first() {
         None => None,
-        Some((TypeToken::Name(name, arity), rest)) => Some((name, *arity, rest)),
+        Some((TextToken::Name(name, arity), rest)) => Some((name, *arity, rest)),
         Some(_) => None,
     }
 }
 
 /// The tokens behind `,`, where it comes next.
-fn behind_comma(tokens: &[TypeToken]) -> Option<&[TypeToken]>
+fn behind_comma(tokens: &[TextToken]) -> Option<&[TextToken]>
     ensures none { IfNone result (IsNoComma tokens.now) }
-    ensures found { IfSome result (λ rest. tokens.now ≡ TypeToken.Comma ∷ rest.now) }
+    ensures found { IfSome result (λ rest. tokens.now ≡ TextToken.Comma ∷ rest.now) }
 {
     match tokens.split_first() {
         None => None,
-        Some((TypeToken::Comma, rest)) => Some(rest),
+        Some((TextToken::Comma, rest)) => Some(rest),
         Some(_) => None,
     }
 }
 
 /// The tokens behind `)`, where it comes next.
-fn behind_close(tokens: &[TypeToken]) -> Option<&[TypeToken]>
+fn behind_close(tokens: &[TextToken]) -> Option<&[TextToken]>
     ensures none { IfNone result (IsNoClose tokens.now) }
-    ensures found { IfSome result (λ rest. tokens.now ≡ TypeToken.Close ∷ rest.now) }
+    ensures found { IfSome result (λ rest. tokens.now ≡ TextToken.Close ∷ rest.now) }
 {
     match tokens.split_first() {
         None => None,
-        Some((TypeToken::Close, rest)) => Some(rest),
+        Some((TextToken::Close, rest)) => Some(rest),
         Some(_) => None,
     }
 }
 
 /// The tokens behind `]`, where it comes next.
-fn behind_close_list(tokens: &[TypeToken]) -> Option<&[TypeToken]>
+fn behind_close_list(tokens: &[TextToken]) -> Option<&[TextToken]>
     ensures none { IfNone result (IsNoCloseList tokens.now) }
-    ensures found { IfSome result (λ rest. tokens.now ≡ TypeToken.CloseList ∷ rest.now) }
+    ensures found { IfSome result (λ rest. tokens.now ≡ TextToken.CloseList ∷ rest.now) }
 {
     match tokens.split_first() {
         None => None,
-        Some((TypeToken::CloseList, rest)) => Some(rest),
+        Some((TextToken::CloseList, rest)) => Some(rest),
         Some(_) => None,
     }
 }
 
 /// The tokens behind `=>`, where it comes next.
-fn behind_arrow(tokens: &[TypeToken]) -> Option<&[TypeToken]>
+fn behind_arrow(tokens: &[TextToken]) -> Option<&[TextToken]>
     ensures none { IfNone result (IsNoArrow tokens.now) }
-    ensures found { IfSome result (λ rest. tokens.now ≡ TypeToken.Arrow ∷ rest.now) }
+    ensures found { IfSome result (λ rest. tokens.now ≡ TextToken.Arrow ∷ rest.now) }
 {
     match tokens.split_first() {
         None => None,
-        Some((TypeToken::Arrow, rest)) => Some(rest),
+        Some((TextToken::Arrow, rest)) => Some(rest),
         Some(_) => None,
     }
 }
@@ -166,7 +166,7 @@ fn construct<'a>(
     name: &Name,
     arity: Option<usize>,
     args: Typs,
-    at: &'a [TypeToken],
+    at: &'a [TextToken],
 ) -> Result<Typ, Fail<'a>>
     ensures { MatchResult result
         (λ T. (go : Ty → Step) → construct name.now arity args at.now go ≡ go T)
@@ -186,8 +186,8 @@ fn construct<'a>(
 fn front<'a>(
     alloc: Global,
     depth: u64,
-    tokens: &'a [TypeToken],
-) -> Result<(Typ, u64, &'a [TypeToken]), Fail<'a>>
+    tokens: &'a [TextToken],
+) -> Result<(Typ, u64, &'a [TextToken]), Fail<'a>>
     requires { depth ≤ limit }
     ensures read { MatchResult result
         (λ read. Runs (front depth tokens.now) (Read read.0 read.1 read.2.now))
@@ -199,23 +199,23 @@ fn front<'a>(
         return Err(refused(TypeWanted::Type, tokens));
     };
     match first {
-        TypeToken::Variable(name) => {
+        TextToken::Variable(name) => {
             let typ = Typ::new(alloc, TypNode::Fixed(name.copy()?))?;
             behind(alloc, depth, typ, 0, after)
         }
-        TypeToken::Unknown(name) => {
+        TextToken::Unknown(name) => {
             let typ = Typ::new(alloc, TypNode::Unknown(name.copy()?, 0))?;
             behind(alloc, depth, typ, 0, after)
         }
-        TypeToken::Name(name, arity) => {
+        TextToken::Name(name, arity) => {
             let typ = construct(alloc, name, *arity, Typs::new(alloc), tokens)?;
             behind(alloc, depth, typ, 0, after)
         }
-        TypeToken::Open => {
+        TextToken::Open => {
             let (argument, height, later) = read_type(alloc, depth + 1, after)?;
             arguments(alloc, depth, argument, height + 1, later)
         }
-        TypeToken::OpenList => {
+        TextToken::OpenList => {
             let (domain, height, later) = read_type(alloc, depth + 2, after)?;
             domains(alloc, depth, domain, height + 2, later)
         }
@@ -230,8 +230,8 @@ fn behind<'a>(
     depth: u64,
     left: Typ,
     height: u64,
-    tokens: &'a [TypeToken],
-) -> Result<(Typ, u64, &'a [TypeToken]), Fail<'a>>
+    tokens: &'a [TextToken],
+) -> Result<(Typ, u64, &'a [TextToken]), Fail<'a>>
     requires { depth + height ≤ limit }
     ensures read { MatchResult result
         (λ read. Runs (behind depth left height tokens.now) (Read read.0 read.1 read.2.now))
@@ -257,8 +257,8 @@ fn to_range<'a>(
     depth: u64,
     domain: Typ,
     height: u64,
-    tokens: &'a [TypeToken],
-) -> Result<(Typ, u64, &'a [TypeToken]), Fail<'a>>
+    tokens: &'a [TextToken],
+) -> Result<(Typ, u64, &'a [TextToken]), Fail<'a>>
     requires no_name { IsNoName tokens.now }
     requires shallow { depth + height ≤ limit }
     ensures read { MatchResult result
@@ -285,8 +285,8 @@ fn arguments<'a>(
     depth: u64,
     first: Typ,
     height: u64,
-    tokens: &'a [TypeToken],
-) -> Result<(Typ, u64, &'a [TypeToken]), Fail<'a>>
+    tokens: &'a [TextToken],
+) -> Result<(Typ, u64, &'a [TextToken]), Fail<'a>>
     requires { depth + height ≤ limit }
     ensures read { MatchResult result
         (λ read. Runs (arguments depth (first ∷ []) height tokens.now) (Read read.0 read.1 read.2.now))
@@ -317,8 +317,8 @@ fn closed<'a>(
     depth: u64,
     args: Typs,
     height: u64,
-    tokens: &'a [TypeToken],
-) -> Result<(Typ, u64, &'a [TypeToken]), Fail<'a>>
+    tokens: &'a [TextToken],
+) -> Result<(Typ, u64, &'a [TextToken]), Fail<'a>>
     requires { depth + height ≤ limit }
     ensures read { MatchResult result
         (λ read. Runs (closed depth args height tokens.now) (Read read.0 read.1 read.2.now))
@@ -343,8 +343,8 @@ fn domains<'a>(
     depth: u64,
     first: Typ,
     height: u64,
-    tokens: &'a [TypeToken],
-) -> Result<(Typ, u64, &'a [TypeToken]), Fail<'a>>
+    tokens: &'a [TextToken],
+) -> Result<(Typ, u64, &'a [TextToken]), Fail<'a>>
     requires { depth + height ≤ limit }
     ensures read { MatchResult result
         (λ read. Runs (domains depth (first ∷ []) height tokens.now) (Read read.0 read.1 read.2.now))
@@ -375,8 +375,8 @@ fn range<'a>(
     depth: u64,
     types: Vec<Typ>,
     height: u64,
-    tokens: &'a [TypeToken],
-) -> Result<(Typ, u64, &'a [TypeToken]), Fail<'a>>
+    tokens: &'a [TextToken],
+) -> Result<(Typ, u64, &'a [TextToken]), Fail<'a>>
     requires { depth + height ≤ limit }
     ensures read { MatchResult result
         (λ read. Runs (range depth types.items height tokens.now) (Read read.0 read.1 read.2.now))

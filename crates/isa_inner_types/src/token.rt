@@ -1,9 +1,37 @@
-//! Tokens of types, and why they are refused.
+//! Tokens of inner texts, and why types are refused.
+use isa_inner::{BinderSign, InfixSign, PrefixSign};
 use isa_terms::Name;
 
-/// A token of an inner text, as the reader of types sees it.
+/// A token that stands in terms and in no type.
 #[derive(Drop)]
-pub enum TypeToken {
+pub enum TermToken {
+    /// `?x`
+    Unknown(Name),
+    /// `==>`, `==` or a declared notation.
+    Infix(InfixSign),
+    /// `PROP` or a declared notation.
+    Prefix(PrefixSign),
+    /// `!!`, `%` or a declared notation.
+    Binder(BinderSign),
+    /// `.`
+    Dot,
+    /// `::`
+    Colons,
+    /// `[|`
+    OpenPremises,
+    /// `;`
+    Semicolon,
+    /// `|]`
+    ClosePremises,
+    /// A symbol that begins no token: a byte, or the text from `\<` to the next `>`.
+    Symbol(Name),
+    /// An unknown or a type unknown in a text that may have none.
+    Schematic(Name),
+}
+
+/// A token of an inner text.
+#[derive(Drop)]
+pub enum TextToken {
     /// An identifier, with the number of arguments of the type constructor of this name, where one is declared.
     Name(Name, Option<usize>),
     /// A type variable, whose name begins with `'`.
@@ -25,7 +53,7 @@ pub enum TypeToken {
     /// What is refused as soon as it is met, by its number.
     Refused(u64),
     /// A token that stands in no type.
-    Other,
+    Other(TermToken),
 }
 
 /// What a type needs next.

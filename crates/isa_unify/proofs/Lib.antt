@@ -49,3 +49,5 @@ pub mod Right
 pub mod MatchClashes
 pub mod GoingOn
 pub mod ConstantLaws
+pub mod KeptPatterns
+pub mod PatternSteps

@@ -10,6 +10,7 @@ use Rattle.isa_unify.specs.declared.unification.Unified.{Unified}
 use Rattle.isa_unify.specs.declared.unification.Unified.TheVariants.{Yes, No, Outside}
 use Rattle.isa_unify.specs.declared.progress.Answer.{Answer}
 use Rattle.isa_unify.specs.UnifyLaw.{IsMostGeneralFor, HaveNone, GoesOn}
+use Rattle.isa_unify.specs.PatternLaw.{NeedsMore}
 use Rattle.isa_unify.specs.declared.progress.Answer.TheVariants as answer
 use Rattle.isa_terms.specs.Entries.{Once}
 use Rattle.isa_terms.specs.Instance.{same_type_unknown, same_unknown}
@@ -72,3 +73,10 @@ MayFollow (Ok (Yes s)) typ old new es = GoesOn typ old new es s
 MayFollow (Ok No) typ old new es = Unit {0}
 MayFollow (Ok Outside) typ old new es = Unit {0}
 MayFollow (Err memory) typ old new es = Unit {0}
+
+-- The answer is Outside only where more new unknowns are needed than there may be.
+abbrev pub IsInside : Result Unified AllocError → ℕ → List Equation → Type 0
+IsInside (Ok (Yes s)) old es = Unit {0}
+IsInside (Ok No) old es = Unit {0}
+IsInside (Ok Outside) old es = NeedsMore es old
+IsInside (Err memory) old es = Unit {0}

@@ -17,4 +17,5 @@ pub mod Worked
 pub mod UnificationRows
 pub mod Laws
 pub mod UnifyLaw
+pub mod PatternLaw
 pub mod Constants

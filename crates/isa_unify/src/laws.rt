@@ -2,6 +2,7 @@
 
 ghost use Rattle.isa_unify.specs.Laws.{UnificationEnds, ClashesEnd};
 ghost use Rattle.isa_unify.specs.UnifyLaw.{NoIsRight, YesIsRight, YesGoesOn};
+ghost use Rattle.isa_unify.specs.PatternLaw.{PatternsAreInside};
 ghost use Rattle.isa_unify.specs.Clashes.{ClashesAreFound, ClashHasNoMatch, LiftedIsLifting, LiftingsClash};
 
 /// The steps of unification end, and the walk that looks for clashes does; no bound in their
@@ -50,4 +51,11 @@ pub fn liftings_clash()
 /// 1,000,000: another unification may follow.
 pub fn yes_goes_on()
     ensures { YesGoesOn }
+{}
+
+/// On patterns unification answers `Outside` only where all of the 1,000,000 numbers were taken for new
+/// unknowns, and one more is needed.
+#[tactic(auto, using(crate::proofs::PatternSteps::patterns_are_inside))]
+pub fn patterns_are_inside()
+    ensures { PatternsAreInside }
 {}

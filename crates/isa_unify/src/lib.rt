@@ -24,8 +24,8 @@ mod unification;
 pub use constants::constants_of;
 pub use fresh::Fresh;
 pub use laws::{
-    clash_has_no_match, clashes_are_found, liftings_clash, no_is_right, unification_ends,
-    yes_goes_on, yes_is_right,
+    clash_has_no_match, clashes_are_found, liftings_clash, no_is_right, patterns_are_inside,
+    unification_ends, yes_goes_on, yes_is_right,
 };
 pub use matching::{match_pattern, match_patterns, match_patterns_from};
 pub use types::{TypePair, unify_type_pairs, unify_types};

@@ -4,8 +4,9 @@ ghost use Rattle.std.specs.Prelude.{◌≡◌, ℕ, List, [], IfOk};
 ghost use Rattle.isa_terms.specs.Types.{Ty};
 ghost use Rattle.isa_unify.specs.TypeStacks.{stack_of};
 ghost use Rattle.isa_unify.specs.Unification.{asked_types, asked_terms, all_types, start, unless_clash, answer_at, unify};
-ghost use Rattle.isa_unify.specs.Calls.{equation, equations_of, type_if_any, AreOnce, Answers, IsRight, MayFollow};
+ghost use Rattle.isa_unify.specs.Calls.{equation, equations_of, type_if_any, AreOnce, Answers, IsRight, MayFollow, IsInside};
 ghost use Rattle.isa_unify.specs.UnifyLaw.{AreGiven};
+ghost use Rattle.isa_unify.specs.PatternLaw.{ArePatterns};
 
 use crate::asking::{add_types, add_unknowns};
 use crate::clashing::clashes;
@@ -203,7 +204,8 @@ fn answer_two(
 /// Unifies the pairs, the first one first. New unknowns are numbered from `fresh` on, which goes
 /// on behind them where there is a unifier, and stays else. For well-typed normal terms whose
 /// unknowns stand at one type each, with numbers below `fresh`, the instance is most general, and
-/// `No` means that there is none.
+/// `No` means that there is none. For normal patterns `Outside` means that more than 1,000,000 new
+/// unknowns are needed.
 pub fn unify_pairs(
     alloc: Global,
     pairs: &[TermPair],
@@ -212,6 +214,7 @@ pub fn unify_pairs(
     ensures answer { Answers result fresh.old fresh.new (unify (equations_of pairs.now) fresh.old) }
     ensures right { (typ : List ℕ → ℕ → Ty) → AreGiven typ fresh.old (equations_of pairs.now) → IsRight result (equations_of pairs.now) }
     ensures follow { (typ : List ℕ → ℕ → Ty) → AreGiven typ fresh.old (equations_of pairs.now) → MayFollow result typ fresh.old fresh.new (equations_of pairs.now) }
+    ensures inside { ArePatterns (equations_of pairs.now) → IsInside result fresh.old (equations_of pairs.now) }
 {
     answer_pairs(alloc, pairs, fresh)
 }
@@ -226,6 +229,7 @@ pub fn unify(
     ensures answer { Answers result fresh.old fresh.new (unify (equation left.now right.now) fresh.old) }
     ensures right { (typ : List ℕ → ℕ → Ty) → AreGiven typ fresh.old (equation left.now right.now) → IsRight result (equation left.now right.now) }
     ensures follow { (typ : List ℕ → ℕ → Ty) → AreGiven typ fresh.old (equation left.now right.now) → MayFollow result typ fresh.old fresh.new (equation left.now right.now) }
+    ensures inside { ArePatterns (equation left.now right.now) → IsInside result fresh.old (equation left.now right.now) }
 {
     answer_two(alloc, left, right, fresh)
 }

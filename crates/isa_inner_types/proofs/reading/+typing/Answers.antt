@@ -1,5 +1,5 @@
 use Rattle.std.proofs.Common.{◌≡◌, ◌∷◌, [], ◌++◌, List, ap, refl, sym, ◌∙◌, length, arith}
-use Rattle.isa_inner_types.specs.declared.token.TypeToken.TheVariants as token
+use Rattle.isa_inner_types.specs.declared.token.TextToken.TheVariants as token
 use Rattle.isa_inner_types.specs.TypeReading.{Whole, Behind, Arguments, Domains, behind, closed, arguments, range, domains, front, ends}
 use Rattle.isa_inner_types.proofs.TypeSteps.{exit, refusal_of, fails_later, refuses, fails_inside, leads_inside, leads_equal, leads_both, leads_place, later_result, whole_deep, whole_front, front_other, front_named, front_at, front_nothing, behind_end, to_function, behind_arrow, behind_deep, behind_name, behind_named, first_argument, first_domain, next_argument, next_domain, to_functions, closed_name, closed_refused, closed_single, arguments_refused, arguments_comma, arguments_close, domains_refused, domains_comma, domains_close, range_refused, range_arrow, variable_leads, unknown_leads, one_of, named_refuses, named_leads, single_leads, none_refuses, front_leads}
 use Rattle.isa_inner_types.proofs.reading.+typing.Goals as goal

@@ -1,5 +1,5 @@
 use Rattle.isa_unify.specs.Calls.{equation}
-use Rattle.isa_unify.proofs.Right.{is_right}
+use Rattle.isa_unify.proofs.Right.{is_right, is_inside}
 use Rattle.isa_unify.proofs.GoingOn.{may_follow}
 use Rattle.isa_unify.proofs.unification.unify.Goals as goal
 
@@ -8,3 +8,6 @@ returns-clause-right c = is_right c.answer_two.result c.args.fresh.now c.answer_
 
 pub returns-clause-follow : goal.returns-clause-follow
 returns-clause-follow c = may_follow c.answer_two.result c.args.fresh.now c.answer_two.new.fresh (equation c.args.left.now c.args.right.now) c.answer_two.ensures
+
+pub returns-clause-inside : goal.returns-clause-inside
+returns-clause-inside c = is_inside c.answer_two.result c.args.fresh.now c.answer_two.new.fresh (equation c.args.left.now c.args.right.now) c.answer_two.ensures

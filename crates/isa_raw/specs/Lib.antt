@@ -1,0 +1,4 @@
+pub mod RawTerms
+pub mod RawCodes
+pub mod RawLayers
+pub mod RawFalls
