@@ -11,3 +11,4 @@ pub mod FirstFree
 pub mod Solved
 pub mod Meant
 pub mod Indexed
+pub mod WellTyped

@@ -9,4 +9,5 @@ pub mod Naming
 pub mod Found
 pub mod Indexes
 pub mod Principal
+pub mod WellTyped
 pub mod Laws

@@ -15,5 +15,5 @@ mod text_names;
 
 pub use error::InferError;
 pub use isa_raw::{RawNode, RawTerm};
-pub use laws::unifiers_are_principal;
+pub use laws::{principal_terms_are_typed, unifiers_are_principal};
 pub use principal::infer;
