@@ -12,7 +12,6 @@ use Rattle.isa_terms.specs.Instance.{same_type_unknown, same_unknown}
 use Rattle.isa_terms.specs.Typing.{type_at}
 use Rattle.isa_terms.specs.declared.inst.TypeEntry.{TypeEntry}
 use Rattle.isa_terms.specs.declared.inst.TermEntry.{TermEntry}
-use Rattle.isa_kernel.specs.Forms.{◌>>=◌}
 use Rattle.isa_kernel.specs.Derivation.{Derives}
 use Rattle.isa_kernel.specs.Theorem.{Theorem}
 use Rattle.isa_kernel.specs.Axioms.{axioms_of}
@@ -21,14 +20,16 @@ use Rattle.isa_kernel.specs.Inferences.{well_typed, assumed, implies_introduced,
 use Rattle.isa_kernel.specs.declared.axioms.NamedProp.{NamedProp}
 use Rattle.isa_kernel.specs.declared.declarations.Declaration.{Declaration}
 use Rattle.isa_kernel.specs.declared.declarations.Declaration.TheVariants.{Constructor, Constant, Axiom}
-use Rattle.isa_cert.specs.Lines as line
-use Rattle.isa_cert.specs.Lines.{Line, Rule, line_of}
-
--- a theorem that is accepted: its name, the axioms that it rests on by their names' bytes, and what it states
-pub record Accepted : Type 0 where
-  pub name : List ℕ
-  pub axioms : List NamedProp
-  pub prop : Tm
+use Rattle.isa_cert.specs.declared.certs.Accepted.{Accepted}
+use Rattle.isa_cert.specs.declared.table.End.{End}
+use Rattle.isa_cert.specs.declared.table.Table.{Table}
+use Rattle.isa_cert.specs.declared.line.Line.{Line}
+use Rattle.isa_cert.specs.declared.line.Line.TheVariants as line
+use Rattle.isa_cert.specs.declared.line.Rule.{Rule}
+use Rattle.isa_cert.specs.declared.line.Rule.TheVariants.{ByAxiom, Assume, ImpliesIntr, ImpliesElim, ForallIntr, ForallElim, Reflexive, Symmetric, Transitive, Combination, AbstractRule, Beta, Eta, EqualIntr, EqualElim, InstantiateThm, Generalize, Cite}
+use Rattle.isa_cert.specs.Words.{words_of}
+use Rattle.isa_cert.specs.Lines.{any_number, line_of}
+use Rattle.isa_kernel.specs.Forms.{◌>>=◌}
 
 -- why a line is refused: it has none of the forms, or names what isn't there; a term has no type, or an axiom is no proposition; an inference's condition fails
 pub data Fault : Type 0 where
@@ -36,15 +37,7 @@ pub data Fault : Type 0 where
   Typed : Fault
   Step : Fault
 
--- What earlier lines have given. What they declare is a theory of its own, where each constant but those of Pure has the type `?'a`.
-pub record Table : Type 0 where
-  pub declared : List Declaration
-  pub types : List Ty
-  pub terms : List Tm
-  pub axioms : List NamedProp
-  pub steps : List Theorem
-  pub ends : List (List ℕ × Theorem)
-
+-- What earlier lines have given is a table. What they declare is a theory of its own, where each constant but those of Pure has the type `?'a`.
 abbrev pub empty : Table
 empty = record { declared = []; types = []; terms = []; axioms = []; steps = []; ends = [] }
 
@@ -60,6 +53,11 @@ all_at xs (n ∷ ns) = do
 abbrev pub or_form : {A B : Type 0} → Option A → (A → Result B Fault) → Result B Fault
 or_form None go = Err Form
 or_form (Some a) go = go a
+
+-- what has no fault goes on
+abbrev pub and_then : {A B : Type 0} → Result A Fault → (A → Result B Fault) → Result B Fault
+and_then (Err fault) go = Err fault
+and_then (Ok a) go = go a
 
 -- ---- types, terms and axioms
 abbrev pub with_type : Table → Ty → Table
@@ -83,42 +81,37 @@ abbrev pub with_axiom : Table → List ℕ → Tm → Result Table Fault
 with_axiom t x p =
     if is_some (axiom_prop t.declared x) then Err Form
     else (if is_some (axiom_refusal t.declared x p) then Err Typed
-    else Ok (record t { declared = t.declared ++ Axiom x p ∷ []; axioms = t.axioms ++ record { name = x; prop = p } ∷ [] }))
+    else Ok (record t { declared = t.declared ++ Axiom x p ∷ []; axioms = t.axioms ++ axiom_theorem x p ∷ [] }))
 
 -- ---- inferences
--- the terms that a line names, and the theorem by the kernel's rule where its condition holds
-pub record Inference : Type 0 where
-  pub terms : List Tm
-  pub theorem : Option Theorem
+-- whether each of the terms has a type
+abbrev pub all_typed : List Tm → Bool
+all_typed [] = true
+all_typed (u ∷ us) = is_some (well_typed (type_at [] u)) && all_typed us
 
-abbrev pub from_nothing : Option Theorem → Option Inference
-from_nothing th = Some (record { terms = []; theorem = th })
+abbrev pub or_step : Option Theorem → Result Theorem Fault
+or_step None = Err Step
+or_step (Some th) = Ok th
+
+-- the theorem of a line that names these terms, where they are typed and the inference's condition holds
+abbrev pub theorem_on : List Tm → Option Theorem → Result Theorem Fault
+theorem_on us th = if all_typed us then or_step th else Err Typed
 
 -- by a rule on a term
-abbrev pub on_term : Table → (Tm → Option Theorem) → ℕ → Option Inference
-on_term t rule e = do
-  u ← slice_get t.terms e
-  Some (record { terms = u ∷ []; theorem = rule u })
+abbrev pub on_term : Table → (Tm → Option Theorem) → ℕ → Result Theorem Fault
+on_term t rule e = or_form (slice_get t.terms e) (λ u. theorem_on (u ∷ []) (rule u))
 
 -- by a rule on a step
-abbrev pub on_step : Table → (Theorem → Option Theorem) → ℕ → Option Inference
-on_step t rule s = do
-  th ← slice_get t.steps s
-  Some (record { terms = []; theorem = rule th })
+abbrev pub on_step : Table → (Theorem → Option Theorem) → ℕ → Result Theorem Fault
+on_step t rule s = or_form (slice_get t.steps s) (λ th. theorem_on [] (rule th))
 
 -- by a rule on a term and a step
-abbrev pub on_both : Table → (Tm → Theorem → Option Theorem) → ℕ → ℕ → Option Inference
-on_both t rule e s = do
-  u ← slice_get t.terms e
-  th ← slice_get t.steps s
-  Some (record { terms = u ∷ []; theorem = rule u th })
+abbrev pub on_both : Table → (Tm → Theorem → Option Theorem) → ℕ → ℕ → Result Theorem Fault
+on_both t rule e s = or_form (slice_get t.terms e) (λ u. or_form (slice_get t.steps s) (λ th. theorem_on (u ∷ []) (rule u th)))
 
 -- by a rule on two steps
-abbrev pub on_steps : Table → (Theorem → Theorem → Option Theorem) → ℕ → ℕ → Option Inference
-on_steps t rule r s = do
-  a ← slice_get t.steps r
-  b ← slice_get t.steps s
-  Some (record { terms = []; theorem = rule a b })
+abbrev pub on_steps : Table → (Theorem → Theorem → Option Theorem) → ℕ → ℕ → Result Theorem Fault
+on_steps t rule r s = or_form (slice_get t.steps r) (λ a. or_form (slice_get t.steps s) (λ b. theorem_on [] (rule a b)))
 
 -- a type unknown with its type
 abbrev pub type_entry : Ty → Ty → Option TypeEntry
@@ -130,72 +123,59 @@ abbrev pub term_entry : Tm → Tm → Option TermEntry
 term_entry (Unknown x i T) u = Some (record { name = x; number = i; typ = T; term = u })
 term_entry _ u = None
 
--- the entries of pairs, none of them twice
-abbrev pub new_entry : {A : Type 0} → (A → A → Bool) → A → List A → Option (List A)
-new_entry same e es = if passes (same e) es then None else Some (e ∷ es)
+-- the entries and one more, where none of them is for the same unknown
+abbrev pub with_entry : {A : Type 0} → (A → A → Bool) → List A → A → Result (List A) Fault
+with_entry same es e = if passes (same e) es then Err Form else Ok (es ++ e ∷ [])
 
-abbrev pub type_entries : Table → List (ℕ × ℕ) → Option (List TypeEntry)
-type_entries t [] = Some []
-type_entries t (p ∷ ps) = do
-  S ← slice_get t.types p.0
-  T ← slice_get t.types p.1
-  e ← type_entry S T
-  es ← type_entries t ps
-  new_entry same_type_unknown e es
+abbrev pub type_pair : Table → List TypeEntry → ℕ × ℕ → Result (List TypeEntry) Fault
+type_pair t es p = or_form (slice_get t.types p.0) (λ S. or_form (slice_get t.types p.1) (λ T. or_form (type_entry S T) (with_entry same_type_unknown es)))
 
-abbrev pub term_entries : Table → List (ℕ × ℕ) → Option (List TermEntry)
-term_entries t [] = Some []
-term_entries t (p ∷ ps) = do
-  u ← slice_get t.terms p.0
-  v ← slice_get t.terms p.1
-  e ← term_entry u v
-  es ← term_entries t ps
-  new_entry same_unknown e es
+abbrev pub term_pair : Table → List TermEntry → ℕ × ℕ → Result (List TermEntry) Fault
+term_pair t es p = or_form (slice_get t.terms p.0) (λ u. or_form (slice_get t.terms p.1) (λ v. or_form (term_entry u v) (with_entry same_unknown es)))
 
--- the rules in the kernel's order
-abbrev pub inference : Table → Rule → Option Inference
-inference t (line.ByAxiom a) = do
-  ax ← slice_get t.axioms a
-  from_nothing (Some (axiom_theorem ax.name ax.prop))
-inference t (line.Assume e) = on_term t assumed e
-inference t (line.ImpliesIntr e s) = on_both t implies_introduced e s
-inference t (line.ImpliesElim r s) = on_steps t implies_eliminated r s
-inference t (line.ForallIntr e s) = on_both t forall_introduced e s
-inference t (line.ForallElim e s) = on_both t forall_eliminated e s
-inference t (line.Reflexive e) = on_term t reflexive_at e
-inference t (line.Symmetric s) = on_step t turned s
-inference t (line.Transitive r s) = on_steps t chained r s
-inference t (line.Combination r s) = on_steps t combined r s
-inference t (line.AbstractRule e s) = on_both t abstracted e s
-inference t (line.Beta e) = on_term t contracted e
-inference t (line.Eta e) = on_term t shortened e
-inference t (line.EqualIntr r s) = on_steps t equal_introduced r s
-inference t (line.EqualElim r s) = on_steps t equal_eliminated r s
-inference t (line.InstantiateThm s types terms) = do
-  th ← slice_get t.steps s
-  ts ← type_entries t types
-  us ← term_entries t terms
-  Some (record { terms = map (λ (e : TermEntry). e.term) us; theorem = instantiated (record { types = ts; terms = us }) th })
-inference t (line.Generalize s xs) = on_step t (generalized xs) s
-inference t (line.Cite n) = do
-  e ← slice_get t.ends n
-  from_nothing (Some e.1)
+-- the entries, and those of the pairs behind them
+abbrev pub type_entries : Table → List TypeEntry → List (ℕ × ℕ) → Result (List TypeEntry) Fault
+type_entries t es [] = Ok es
+type_entries t es (p ∷ ps) = and_then (type_pair t es p) (λ more. type_entries t more ps)
 
--- whether each of the terms has a type
-abbrev pub all_typed : List Tm → Bool
-all_typed [] = true
-all_typed (u ∷ us) = is_some (well_typed (type_at [] u)) && all_typed us
+abbrev pub term_entries : Table → List TermEntry → List (ℕ × ℕ) → Result (List TermEntry) Fault
+term_entries t es [] = Ok es
+term_entries t es (p ∷ ps) = and_then (term_pair t es p) (λ more. term_entries t more ps)
 
-abbrev pub with_theorem : Table → Option Theorem → Result Table Fault
-with_theorem t None = Err Step
-with_theorem t (Some th) = Ok (record t { steps = t.steps ++ th ∷ [] })
+abbrev pub terms_of : List TermEntry → List Tm
+terms_of es = map (λ (e : TermEntry). e.term) es
 
-abbrev pub with_step : Table → Inference → Result Table Fault
-with_step t i = if all_typed i.terms then with_theorem t i.theorem else Err Typed
+abbrev pub instance_on : Table → ℕ → List (ℕ × ℕ) → List (ℕ × ℕ) → Result Theorem Fault
+instance_on t s types terms = or_form (slice_get t.steps s) (λ th.
+    and_then (type_entries t [] types) (λ es. and_then (term_entries t [] terms) (λ fs. theorem_on (terms_of fs) (instantiated (record { types = es; terms = fs }) th))))
+
+-- the theorem of a line by its inference, in the kernel's order
+abbrev pub inferred : Table → Rule → Result Theorem Fault
+inferred t (ByAxiom a) = or_form (slice_get t.axioms a) Ok
+inferred t (Assume e) = on_term t assumed e
+inferred t (ImpliesIntr e s) = on_both t implies_introduced e s
+inferred t (ImpliesElim r s) = on_steps t implies_eliminated r s
+inferred t (ForallIntr e s) = on_both t forall_introduced e s
+inferred t (ForallElim e s) = on_both t forall_eliminated e s
+inferred t (Reflexive e) = on_term t reflexive_at e
+inferred t (Symmetric s) = on_step t turned s
+inferred t (Transitive r s) = on_steps t chained r s
+inferred t (Combination r s) = on_steps t combined r s
+inferred t (AbstractRule e s) = on_both t abstracted e s
+inferred t (Beta e) = on_term t contracted e
+inferred t (Eta e) = on_term t shortened e
+inferred t (EqualIntr r s) = on_steps t equal_introduced r s
+inferred t (EqualElim r s) = on_steps t equal_eliminated r s
+inferred t (InstantiateThm s types terms) = instance_on t s types terms
+inferred t (Generalize s xs) = on_step t (generalized xs) s
+inferred t (Cite digits) = or_form (any_number digits) (λ n. or_form (slice_get t.ends n) (λ e. Ok e.theorem))
+
+abbrev pub with_step : Table → Theorem → Table
+with_step t th = record t { steps = t.steps ++ th ∷ [] }
 
 -- the end of a theorem without hypotheses
 abbrev pub with_end : Table → List ℕ → Theorem → List Tm → Result Table Fault
-with_end t x th [] = Ok (record t { ends = t.ends ++ (x, th) ∷ [] })
+with_end t x th [] = Ok (record t { ends = t.ends ++ record { name = x; theorem = th } ∷ [] })
 with_end t x th (h ∷ hs) = Err Step
 
 -- ---- lines
@@ -210,13 +190,9 @@ taken t (line.TermUnknown x i n) = or_form (slice_get t.types n) (λ T. Ok (with
 taken t (line.TermBound i) = Ok (with_term t (Bound i))
 taken t (line.TermAbs x n e) = or_form (slice_get t.types n) (λ T. or_form (slice_get t.terms e) (λ b. Ok (with_term t (Abs x T b))))
 taken t (line.TermApp f a) = or_form (slice_get t.terms f) (λ u. or_form (slice_get t.terms a) (λ v. Ok (with_term t (App u v))))
-taken t (line.AxiomLine x e) = or_form (slice_get t.terms e) (λ p. with_axiom t x p)
-taken t (line.StepLine r) = or_form (inference t r) (with_step t)
-taken t (line.EndLine s x) = or_form (slice_get t.steps s) (λ th. with_end t x th th.hyps)
-
--- the words of a line, one blank between two
-abbrev pub words_of : List ℕ → List (List ℕ)
-words_of text = slice_split (nat_eq 32) text
+taken t (line.Axiom x e) = or_form (slice_get t.terms e) (with_axiom t x)
+taken t (line.Step r) = and_then (inferred t r) (λ th. Ok (with_step t th))
+taken t (line.End s x) = or_form (slice_get t.steps s) (λ th. with_end t x th th.hyps)
 
 -- ---- the text
 -- the first line that is refused, counted from 1; or that the text doesn't close with an end
@@ -232,22 +208,29 @@ at n Typed = TypedAt n
 at n Step = StepAt n
 
 abbrev pub is_end : Line → Bool
-is_end (line.EndLine s x) = true
+is_end (line.End s x) = true
 is_end _ = false
 
--- What parts between line feeds add, the first one being line n; whether the line before it was an end. The last part stands behind the last line feed and is empty.
+-- what the words of a line add, and whether the line is an end
+abbrev pub read_line : Table → List ℕ → Result (Table × Bool) Fault
+read_line t text = or_form (line_of (words_of text)) (λ l. and_then (taken t l) (λ later. Ok (later, is_end l)))
+
+-- a fault is that of line n
+abbrev pub at_line : {A B : Type 0} → ℕ → Result A Fault → (A → Result B Refusal) → Result B Refusal
+at_line n (Err fault) go = Err (at n fault)
+at_line n (Ok a) go = go a
+
+-- Where the text ends: nothing stands behind the last line feed, and the last line is an end.
+abbrev pub closed : ℕ → Table → Bool → List ℕ → Result Table Refusal
+closed n t ended (b ∷ bs) = Err (FormAt n)
+closed n t true [] = Ok t
+closed n t false [] = Err NoEnd
+
+-- What parts between line feeds add, the first one being line n; whether the line before it is an end. The last part stands behind the last line feed.
 abbrev pub taken_from : ℕ → Table → Bool → List (List ℕ) → Result Table Refusal
 taken_from n t ended [] = Ok t
-taken_from n t true ([] ∷ []) = Ok t
-taken_from n t false ([] ∷ []) = Err NoEnd
-taken_from n t ended ((b ∷ bs) ∷ []) = Err (FormAt n)
-taken_from n t ended (part ∷ next ∷ parts) = elim (line_of (words_of part)) [
-  | None ↦ Err (FormAt n)
-  | Some l ↦ elim (taken t l) [
-    | Ok later ↦ taken_from (n + 1) later (is_end l) (next ∷ parts)
-    | Err fault ↦ Err (at n fault)
-  ]
-]
+taken_from n t ended (part ∷ []) = closed n t ended part
+taken_from n t ended (part ∷ next ∷ parts) = at_line n (read_line t part) (λ r. taken_from (n + 1) r.0 r.1 (next ∷ parts))
 
 -- the axioms by the bytes of their names
 abbrev pub put_axiom : NamedProp → List NamedProp → List NamedProp
@@ -258,8 +241,8 @@ abbrev pub by_name : List NamedProp → List NamedProp
 by_name [] = []
 by_name (a ∷ rest) = put_axiom a (by_name rest)
 
-abbrev pub accepted : List ℕ × Theorem → Accepted
-accepted e = record { name = e.0; axioms = by_name (axioms_of e.1.base); prop = e.1.prop }
+abbrev pub accepted : End → Accepted
+accepted e = record { name = e.name; axioms = by_name (axioms_of e.theorem.base); prop = e.theorem.prop }
 
 abbrev pub accepted_of : Result Table Refusal → Result (List Accepted) Refusal
 accepted_of (Ok t) = Ok (map accepted t.ends)
@@ -273,7 +256,7 @@ checked_lines _ = Err (FormAt 1)
 -- the theorems of a text of certificates, in their order, or the first refusal; an empty text has none
 abbrev pub checked : List ℕ → Result (List Accepted) Refusal
 checked [] = Ok []
-checked (b ∷ bs) = checked_lines (slice_split (nat_eq 10) (b ∷ bs))
+checked (b ∷ bs) = checked_lines (slice_split (λ x. nat_eq x 10) (b ∷ bs))
 
 -- the text is accepted, and these are its theorems
 abbrev pub CertOk : List ℕ → List Accepted → Type 0
