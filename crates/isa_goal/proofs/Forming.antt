@@ -4,10 +4,11 @@ use Rattle.isa_terms.specs.Types.{Ty, TyCon, TyFixed, TyUnknown}
 use Rattle.isa_terms.specs.Terms.{Tm, Const, Free, Unknown, Bound, Abs, App}
 use Rattle.isa_terms.specs.Normal.{IsNormal}
 use Rattle.isa_terms.specs.Instance.{Instance, instance_of, set_type, set_term, same_type_unknown, same_unknown}
+use Rattle.isa_terms.specs.Unknowns.{unknowns_of, type_unknowns_of}
 use Rattle.isa_terms.specs.declared.inst.TypeEntry.{TypeEntry}
 use Rattle.isa_terms.specs.declared.inst.TermEntry.{TermEntry}
 use Rattle.isa_goal.specs.Goals.{Goals, IsStanding}
-use Rattle.isa_goal.specs.Names.{next_type_number, next_number, type_entries, entries, set_types, set_terms, type_unknowns_in, type_unknowns_of, unknowns_in, unknowns_of, type_naming, term_naming, naming, normalised, reshaped, canon}
+use Rattle.isa_goal.specs.Names.{next_type_number, next_number, type_entries, entries, set_types, set_terms, free_names, fixed_names, terms_of, type_naming, term_naming, naming, normalised, reshaped, canon}
 use Rattle.isa_subgoal.specs.Shape.{is_in_form, shaped}
 use Rattle.isa_terms.specs.Instances.{Each}
 use Rattle.isa_goal.specs.Follows.{IsNormalState}
@@ -19,22 +20,22 @@ use Rattle.isa_subgoal.proofs.Shaping.{shaped_normal}
 use Rattle.isa_goal.proofs.Unknowns.{IsTypeUnknown, IsUnknown, RenamesTypes, RenamesTerms, instance_renamed, form_renamed}
 
 -- ---- a state's naming renames
-entries_rename_types : (goal : Tm) (n : ℕ) (us : List Ty) → RenamesTypes (type_entries goal n us)
+entries_rename_types : (names : List (List ℕ)) (n : ℕ) (us : List Ty) → RenamesTypes (type_entries names n us)
 unfolding type_entries
-entries_rename_types goal n [] = tt
-entries_rename_types goal n (TyUnknown x i ∷ us) = (tt, entries_rename_types goal (next_type_number goal n + 1) us)
-entries_rename_types goal n (TyCon x Ts ∷ us) = entries_rename_types goal n us
-entries_rename_types goal n (TyFixed x ∷ us) = entries_rename_types goal n us
+entries_rename_types names n [] = tt
+entries_rename_types names n (TyUnknown x i ∷ us) = (tt, entries_rename_types names (next_type_number names n + 1) us)
+entries_rename_types names n (TyCon x Ts ∷ us) = entries_rename_types names n us
+entries_rename_types names n (TyFixed x ∷ us) = entries_rename_types names n us
 
-entries_rename_terms : (es : List TypeEntry) (goal : Tm) (n : ℕ) (us : List Tm) → RenamesTerms (entries es goal n us)
+entries_rename_terms : (es : List TypeEntry) (names : List (List ℕ)) (n : ℕ) (us : List Tm) → RenamesTerms (entries es names n us)
 unfolding entries
-entries_rename_terms es goal n [] = tt
-entries_rename_terms es goal n (Unknown x i T ∷ us) = (tt, entries_rename_terms es goal (next_number goal n + 1) us)
-entries_rename_terms es goal n (Const x T ∷ us) = entries_rename_terms es goal n us
-entries_rename_terms es goal n (Free x T ∷ us) = entries_rename_terms es goal n us
-entries_rename_terms es goal n (Bound i ∷ us) = entries_rename_terms es goal n us
-entries_rename_terms es goal n (Abs x T b ∷ us) = entries_rename_terms es goal n us
-entries_rename_terms es goal n (App f a ∷ us) = entries_rename_terms es goal n us
+entries_rename_terms es names n [] = tt
+entries_rename_terms es names n (Unknown x i T ∷ us) = (tt, entries_rename_terms es names (next_number names n + 1) us)
+entries_rename_terms es names n (Const x T ∷ us) = entries_rename_terms es names n us
+entries_rename_terms es names n (Free x T ∷ us) = entries_rename_terms es names n us
+entries_rename_terms es names n (Bound i ∷ us) = entries_rename_terms es names n us
+entries_rename_terms es names n (Abs x T b ∷ us) = entries_rename_terms es names n us
+entries_rename_terms es names n (App f a ∷ us) = entries_rename_terms es names n us
 
 set_renames_types : (e : TypeEntry) (es : List TypeEntry) → IsTypeUnknown e.typ → RenamesTypes es → RenamesTypes (set_type e es)
 set_renames_types e [] h k = (h, tt)
@@ -62,8 +63,8 @@ sets_rename_terms (g ∷ gs) fs h k = sets_rename_terms gs (set_term g fs) h.1 (
 
 pub naming_renames : (s : Goals) → RenamesTypes (type_naming s) × RenamesTerms (term_naming s)
 naming_renames s = (
-  sets_rename_types (type_entries s.goal 1 (type_unknowns_in (type_unknowns_of [] s.subgoals) s.goal)) [] (entries_rename_types s.goal 1 _) tt,
-  sets_rename_terms (entries (type_naming s) s.goal 1 (unknowns_in (unknowns_of [] s.subgoals) s.goal)) [] (entries_rename_terms (type_naming s) s.goal 1 _) tt,
+  sets_rename_types (type_entries (fixed_names s.goal) 1 (type_unknowns_of (terms_of s))) [] (entries_rename_types (fixed_names s.goal) 1 _) tt,
+  sets_rename_terms (entries (type_naming s) (free_names s.goal) 1 (unknowns_of (terms_of s))) [] (entries_rename_terms (type_naming s) (free_names s.goal) 1 _) tt,
 )
 
 -- ---- the subgoals

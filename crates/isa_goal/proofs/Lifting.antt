@@ -13,14 +13,15 @@ use Rattle.isa_kernel.proofs.Instances.{instantiated_sound}
 use Rattle.isa_terms.proofs.Typed.{typed_of_type}
 use Rattle.isa_goal.specs.Goals.{Goals, IsStanding, around}
 use Rattle.isa_subgoal.specs.Premises.{implies, premises, conclusion, rule_form, rule_of}
-use Rattle.isa_goal.specs.Names.{unknowns_in, set_terms}
-use Rattle.isa_subgoal.specs.Steps.{raised}
-use Rattle.isa_goal.specs.Raising.{raised_instance}
+use Rattle.isa_terms.specs.Unknowns.{unknowns_of}
+use Rattle.isa_goal.specs.Names.{set_terms}
+use Rattle.isa_subgoal.specs.Rules.{raised}
+use Rattle.isa_goal.specs.Private.Raising.{raised_instance}
 use Rattle.isa_goal.specs.Matching.{matched, is_first_order}
 use Rattle.isa_goal.specs.Resolving.{apart, new_types, matching, under_assumptions}
 use Rattle.isa_subgoal.proofs.Deriving.{ArePropositions, implies_typed, propositions_right}
 use Rattle.isa_subgoal.proofs.Answering.{rule_parts, raised_derived}
-use Rattle.isa_subgoal.proofs.Cutting.{raised_is}
+use Rattle.isa_subgoal.proofs.Closed.{raised_is}
 use Rattle.isa_goal.proofs.Refining.{around_made, standing_propositions}
 use Rattle.isa_subgoal.proofs.Instancing.{instance_implies, instantiated_is}
 use Rattle.isa_subgoal.proofs.Splitting.{premises_all, same_length}
@@ -42,8 +43,8 @@ apart_keeps es (App f a ∷ us) = apart_keeps es us
 
 pub matching_keeps : (fs : List TermEntry) (th : Theorem) (t : Tm) → is_first_order (conclusion th.prop) ≡ true → matched (conclusion th.prop) t [] ≡ Some fs → keeps (matching fs th).types (matching fs th).terms ≡ true
 matching_keeps fs th t o m =
-    keeps_sets (new_types th) fs (set_terms (apart (new_types th) (unknowns_in [] th.prop)) []) (matched_keeps (new_types th) (conclusion th.prop) t [] fs o m refl)
-    (keeps_sets (new_types th) (apart (new_types th) (unknowns_in [] th.prop)) [] (apart_keeps (new_types th) (unknowns_in [] th.prop)) refl)
+    keeps_sets (new_types th) fs (set_terms (apart (new_types th) (unknowns_of (th.prop ∷ []))) []) (matched_keeps (new_types th) (conclusion th.prop) t [] fs o m refl)
+    (keeps_sets (new_types th) (apart (new_types th) (unknowns_of (th.prop ∷ []))) [] (apart_keeps (new_types th) (unknowns_of (th.prop ∷ []))) refl)
 
 map_twice : (f g : Tm → Tm) (ts : List Tm) → map f (map g ts) ≡ map (λ t. f (g t)) ts
 map_twice f g [] = refl

@@ -17,7 +17,7 @@ use Rattle.isa_subgoal.specs.Premises.{premises, conclusion}
 use Rattle.isa_goal.specs.Names.{canon}
 use Rattle.isa_goal.specs.Follows.{Follows}
 use Rattle.isa_goal.specs.Matching.{matched, is_first_order}
-use Rattle.isa_goal.specs.Raising.{raised_instance}
+use Rattle.isa_goal.specs.Private.Raising.{raised_instance}
 use Rattle.isa_goal.specs.Resolving.{matching, under_assumptions, resolved, attempt, with_first, results, base_of, FollowsIfFound, Search, left, Steps}
 use Rattle.isa_goal.specs.declared.found.Found.{Found}
 use Rattle.isa_goal.specs.declared.found.Found.TheVariants.{Outside, Res}

@@ -1,8 +1,10 @@
 -- What is known of a state in canonical form.
 -- Source: a schematic goal state in a standard form of its unknowns, as by Isabelle's `Drule.export_without_context` and `zero_var_indexes`: the unknowns are renamed apart and have the index 0. Which names they get then is a rule of our own (`Names`).
-use Rattle.std.specs.Prelude.{◌≡◌, Bool, true, ◌&&◌, nat_eq}
+use Rattle.std.specs.Prelude.{◌≡◌, ℕ, List, Bool, true, ◌&&◌, nat_eq}
 use Rattle.isa_terms.specs.Types.{Ty, Tys, TyCon, TyFixed, TyUnknown, NoTys, MoreTys}
 use Rattle.isa_terms.specs.Terms.{Tm, Const, Free, Unknown, Bound, Abs, App}
+use Rattle.isa_terms.specs.Unknowns.{all_unknown_places}
+use Rattle.isa_kernel.specs.Derivation.{Member}
 use Rattle.isa_goal.specs.Goals.{Goals}
 use Rattle.isa_terms.specs.Instances.{Each}
 use Rattle.isa_subgoal.specs.Shape.{is_in_form}
@@ -35,3 +37,7 @@ is_unnumbered (App f a) = is_unnumbered f && is_unnumbered a
 pub record IsUnnumberedState (s : Goals) : Type 0 where
   pub subgoals : Each (λ t. is_unnumbered t ≡ true) s.subgoals
   pub goal : is_unnumbered s.goal ≡ true
+
+-- an unknown's name and number stand with one type in the terms
+pub record HasOneType (ts : List Tm) : Type 0 where
+  pub same : (x : List ℕ) (i : ℕ) (S T : Ty) → Member (Unknown x i S) (all_unknown_places ts) → Member (Unknown x i T) (all_unknown_places ts) → S ≡ T

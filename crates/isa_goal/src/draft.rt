@@ -1,18 +1,17 @@
+//! Subgoals, and the goal that they imply by a theorem, in any form.
 ghost use Rattle.std.specs.Prelude.{◌≡◌, take, drop, true, Some, Ok, IfOk, is_ok};
 ghost use Rattle.isa_kernel.specs.Inferences.{keeps};
 ghost use Rattle.isa_goal.specs.Follows.{instanced, IsNormalState};
-ghost use Rattle.isa_goal.specs.Names.{reshaped, canon, naming};
+ghost use Rattle.isa_goal.specs.Names.{normalised, reshaped, canon, naming};
+ghost use Rattle.isa_goal.specs.Private.Numbers.{NumbersFit};
 ghost use Rattle.isa_goal.specs.Focus.{focused, put_back};
 ghost use Rattle.isa_goal.specs.Goals.{Goals, IsStanding, has_parameter, theorem_of, Proves, Gives, Finishes, started, refined};
 
-use crate::naming::{
-    add_all_type_unknowns, add_all_unknowns, add_type_unknowns, add_unknowns, name_type_unknowns,
-    name_unknowns,
-};
-use crate::places::around;
+use crate::naming::{fixed_names, free_names, is_identity, name_type_unknowns, name_unknowns};
+use crate::places::{around, with_last};
 use isa_kernel::{InferenceError, Thm, assume, implies_intr, instantiate_thm};
 use isa_subgoal::{cut, is_all, make_implies, reshape, rotate, spliced, split_leading, split_rule};
-use isa_terms::{Inst, Term, Terms, Typs, copied, same_term};
+use isa_terms::{Inst, Term, Terms, copied, same_term, type_unknowns_of, unknowns_of};
 use std::alloc::{AllocError, Global};
 use std::marker::Model;
 
@@ -173,14 +172,22 @@ impl Draft {
 
     /// The names of its unknowns and type unknowns by first occurrence.
     fn naming(&self, alloc: Global) -> Result<Inst, AllocError>
-        ensures { IfOk result (λ s. s ≡ naming self.now) }
+        ensures naming { IfOk result (λ s. s ≡ naming self.now) }
+        ensures fit { IfOk result (λ s. NumbersFit self.now) }
     {
-        let types = add_all_type_unknowns(self.subgoals.as_slice(), Typs::new(alloc))?;
-        let types = add_type_unknowns(&self.goal, types)?;
-        let seen = add_all_unknowns(self.subgoals.as_slice(), Terms::new(alloc))?;
-        let seen = add_unknowns(&self.goal, seen)?;
-        let names = name_type_unknowns(alloc, &self.goal, 1, types.as_slice(), Inst::new(alloc))?;
-        name_unknowns(alloc, &self.goal, 1, seen.as_slice(), names)
+        let terms = with_last(alloc, self.subgoals.as_slice(), &self.goal)?;
+        let types = type_unknowns_of(alloc, terms.as_slice())?;
+        let unknowns = unknowns_of(alloc, terms.as_slice())?;
+        let fixed = fixed_names(alloc, &self.goal)?;
+        let free = free_names(alloc, &self.goal)?;
+        let names = name_type_unknowns(
+            alloc,
+            fixed.as_slice(),
+            1,
+            types.as_slice(),
+            Inst::new(alloc),
+        )?;
+        name_unknowns(alloc, free.as_slice(), 1, unknowns.as_slice(), names)
     }
 
     /// The draft under the instance.
@@ -217,12 +224,16 @@ impl Draft {
 
     /// The canonical form.
     pub(crate) fn canon(&self, alloc: Global) -> Result<Draft, AllocError>
-        ensures { IfOk result (λ t. t ≡ canon self.now) }
+        ensures form { IfOk result (λ t. t ≡ canon self.now) }
+        ensures fit { IfOk result (λ t. NumbersFit (reshaped (normalised self.now))) }
     {
         self.is_standing();
         let normal = self.instance(alloc, &Inst::new(alloc))?;
         let shaped = normal.reshaped(alloc)?;
         let names = shaped.naming(alloc)?;
+        if is_identity(&names) {
+            return Ok(shaped);
+        }
         shaped.instance(alloc, &names)
     }
 }

@@ -1,3 +1,4 @@
+//! What a rule is used for, and what it gives.
 use crate::state::State;
 
 /// How a rule is used at a subgoal.

@@ -1,5 +1,5 @@
 //! Signs and how they are spelled.
-ghost use Rattle.std.specs.Prelude.{◌≡◌, max, length, IfOk, OnOk};
+ghost use Rattle.std.specs.Prelude.{◌≡◌, max, length, [], IfOk, OnOk};
 ghost use Rattle.std.specs.Option.{option_copied};
 ghost use Rattle.indexmap.specs.IndexMap.{get, insert_entry};
 ghost use Rattle.isa_terms.specs.Equal.{name_eq};
@@ -39,7 +39,10 @@ pub struct Signs {
 
 impl Signs {
     /// The table without signs.
-    pub fn new(alloc: Global) -> Signs {
+    pub fn new(alloc: Global) -> Signs
+        ensures entries { result.entries.entries ≡ [] }
+        ensures longest { result.longest ≡ 0 }
+    {
         Signs {
             entries: IndexMap::new(alloc),
             longest: 0,

@@ -1,6 +1,6 @@
 -- How `t == t'`, t' being the normal form of t, comes of primitive inferences.
 -- An instance is answered in normal form, the hypotheses aside. So with c a proposition that isn't in `t == t'`, the hypothesis `t == t' ==> c` gives `t' == t' ==> c`, and hence c. What follows, `!!c. (t == t' ==> c) ==> c`, gives `t == t'` at `t == t'`.
-use Rattle.std.proofs.Common.{◌≡◌, ℕ, ◌+◌, List, [], ◌∷◌, Bool, true, false, cond, ◌||◌, ◌&&◌, Some, None, Ok, refl, sym, ap, ◌∙◌, subst, not, arith}
+use Rattle.std.proofs.Common.{◌≡◌, ℕ, ◌+◌, List, [], ◌∷◌, Bool, true, false, cond, ◌||◌, ◌&&◌, Some, None, Result, Ok, refl, sym, ap, ◌∙◌, subst, not, arith}
 use Rattle.std.specs.Prelude.{option_and_then}
 use Rattle.std.specs.Cmp.Lexicographic.{bytes_decides}
 use Rattle.isa_terms.specs.Types.{Ty, Tys, TyCon, TyFixed, TyUnknown, NoTys, MoreTys}
@@ -8,6 +8,7 @@ use Rattle.isa_terms.specs.Terms.{Tm, Const, Free, Unknown, Bound, Abs, App}
 use Rattle.isa_terms.specs.Equal.{name_eq, ty_eq, tm_eq}
 use Rattle.isa_terms.specs.Typing.{type_at}
 use Rattle.isa_terms.specs.Norm.{norm}
+use Rattle.isa_terms.specs.Normal.{IsNormal}
 use Rattle.isa_terms.specs.Replace.{replace}
 use Rattle.isa_terms.specs.Binding.{occurs, close, close_at}
 use Rattle.isa_terms.specs.Instance.{Instance, instance_of, inst_ty, inst_tys, inst_tm, in_ty, in_tys, in_tm}
@@ -16,12 +17,14 @@ use Rattle.isa_terms.proofs.Equal.{ty_decides}
 use Rattle.isa_terms.proofs.Typed.{Typed, TFree, type_of_typed, typed_of_type}
 use Rattle.isa_terms.proofs.Conv.{right_typed, norm_conv}
 use Rattle.isa_terms.proofs.ConversionLaws.{norm_twice}
+use Rattle.isa_terms.proofs.NormalForms.{norm_same}
 use Rattle.isa_terms.proofs.Instances.{put_same}
 use Rattle.isa_terms.proofs.Shared.{raise_zero}
 use Rattle.isa_kernel.specs.Logic.{prop, imp, eq, all}
 use Rattle.isa_kernel.specs.Theorem.{Theorem}
-use Rattle.isa_kernel.specs.Inferences.{has_type, well_typed, assumed, implies_introduced, implies_eliminated, forall_introduced, forall_eliminated, reflexive_at, instantiated}
+use Rattle.isa_kernel.specs.Inferences.{Answers, has_type, well_typed, assumed, implies_introduced, implies_eliminated, forall_introduced, forall_eliminated, reflexive_at, instantiated}
 use Rattle.isa_kernel.specs.Derived.{normal_form_at}
+use Rattle.isa_kernel.specs.declared.inference.InferenceError.{InferenceError}
 use Rattle.isa_kernel.specs.Replay.{Replay, IsRecorded}
 use Rattle.isa_kernel.specs.Replays.{replay_of}
 use Rattle.isa_kernel.specs.declared.log.LogNode.TheVariants.{Assume, ImpliesIntr, ImpliesElim, ForallIntr, ForallElim, Reflexive, InstantiateThm}
@@ -176,3 +179,10 @@ normal_form_of t m e T th log typed hm he h r =
     let same : Some (record { hyps = []; prop = eq T t (norm t); base = [] }) ≡ Some th = sym made ∙ h in
     let is : record { hyps = []; prop = eq T t (norm t); base = [] } ≡ th = cc (same) in
     subst (λ (x : Theorem). IsRecorded x log) is (subst (λ (q : Tm). IsRecorded (record { hyps = []; prop = q; base = [] }) log) (he ∙ ap (eq T t) hm) r)
+
+-- a normal term is its own normal form
+normal_reflexive : (t : Tm) → IsNormal t → reflexive_at t ≡ normal_form_at t
+normal_reflexive t n = ap (λ m. option_and_then (λ (T : Ty). Some (record { hyps = []; prop = eq T t m; base = [] })) (well_typed (type_at [] t))) (sym (norm_same t n))
+
+pub normal_answers : (t : Tm) (r : Result Theorem InferenceError) → IsNormal t → Answers r (reflexive_at t) → Answers r (normal_form_at t)
+normal_answers t r n a = subst (Answers r) (normal_reflexive t n) a

@@ -114,3 +114,7 @@ last_made (App f a) e = cc
 -- a constant of that name, whose type is a relation on S
 pub constant_made : (name : List ℕ) (c : Tm) (F T S : Ty) → const_type name c ≡ Some F → relation_of F ≡ Some T → ty_eq T S ≡ true → c ≡ Const name (function_of S (function_of S prop))
 constant_made name c F T S e f h = const_made name c F e ∙ ap (Const name) (relation_made F T f ∙ ap (λ X. function_of X (function_of X prop)) ((ty_decides T S).0 h))
+
+-- a constant of that name, whose type is that of quantifiers over S
+pub quantifier_made : (name : List ℕ) (c : Tm) (F P T S : Ty) → const_type name c ≡ Some F → predicate_of F ≡ Some P → predicate_of P ≡ Some T → ty_eq T S ≡ true → c ≡ Const name (function_of (function_of S prop) prop)
+quantifier_made name c F P T S e f g h = const_made name c F e ∙ ap (Const name) (predicate_made F P f ∙ ap (λ X. function_of X prop) (predicate_made P T g ∙ ap (λ X. function_of X prop) ((ty_decides T S).0 h)))

@@ -1,3 +1,4 @@
+//! What a theory declares, and why it refuses.
 use isa_terms::{IllTyped, Name, Term, Typ};
 use std::alloc::AllocError;
 

@@ -1,3 +1,4 @@
+//! Laws of the logic, of bases and of theories, as calls.
 ghost use Rattle.isa_kernel.specs.Laws.{NormalFormsAreDerived, DerivedArePropositions, InstancesAreFound, JoinsAreLeast};
 ghost use Rattle.isa_kernel.specs.Well.{AxiomsAreWell};
 

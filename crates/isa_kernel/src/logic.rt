@@ -1,3 +1,4 @@
+//! The facts of an object logic by their roles.
 ghost use Rattle.std.specs.Prelude.{◌≡◌, IfOk};
 ghost use Rattle.isa_kernel.specs.Logics.{no_roles};
 

@@ -1,3 +1,4 @@
+//! Theories: what is declared, and what they accept.
 ghost use Rattle.std.specs.Prelude.{◌≡◌, ◌≤◌, None, [], ◌∷◌, ◌++◌, length, take, drop, is_some, IfSome, IfOk, OnOk};
 ghost use Rattle.std.specs.Option.{option_copied};
 ghost use Rattle.isa_terms.specs.Types.{tys_of};

@@ -1,3 +1,4 @@
+//! Whether a type is an instance of a general one.
 ghost use Rattle.std.specs.Prelude.{◌≡◌, [], IfOk};
 ghost use Rattle.isa_terms.specs.Types.{tys_of};
 ghost use Rattle.isa_terms.specs.Instance.{find_type};

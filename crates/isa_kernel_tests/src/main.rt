@@ -1,5 +1,5 @@
-// Reads a table of calls of the kernel, and says of each row whether it answers what the row begins with. The file stdin
-// explains the rows.
+//! Reads a table of calls of the kernel, and says of each row whether it answers what the row begins with. The file stdin
+//! explains the rows.
 #![tactic(auto)]
 
 mod rows;

@@ -1,3 +1,4 @@
+//! One row of the table.
 use crate::theorems::theorem_row;
 use crate::theories::theory_row;
 use isa_sketch::{Bench, Fault, is_word, split};

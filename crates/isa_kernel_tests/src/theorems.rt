@@ -1,7 +1,8 @@
+//! Rows that an inference answers.
 use crate::rows::is_about;
 use isa_kernel::Thm;
 use isa_sketch::{Bench, Fault, is_word, number, split};
-use isa_terms::{Term, same_term};
+use isa_terms::{Term, TermNode, same_term};
 use std::alloc::Global;
 
 /// Whether the inference answers what it should.
@@ -14,8 +15,16 @@ pub fn theorem_row(alloc: Global, bench: &Bench, wanted: &str, call: &str) -> Re
     }
 }
 
-/// Whether it has so many hypotheses, rests on so many axioms, and states the proposition.
+/// Whether it has so many hypotheses, rests on so many axioms, and states the proposition; or whether its base has so many
+/// entries; or whether it states the proposition, the names of binders included.
 fn is_wanted(alloc: Global, bench: &Bench, wanted: &str, th: &Thm) -> Result<bool, Fault> {
+    if let Some(count) = wanted.strip_prefix("entries ") {
+        return Ok(th.base().len() == number(count)?);
+    }
+    if let Some(prop) = wanted.strip_prefix("named ") {
+        let prop = bench.term(alloc, prop)?;
+        return Ok(states(th, &prop) && has_names(th.prop(), &prop));
+    }
     let (hyps, rest) = split(wanted)?;
     let (axioms, prop) = split(rest)?;
     let counted = count_hyps(th) == number(hyps)? && count_axioms(th) == number(axioms)?;
@@ -32,4 +41,17 @@ fn count_axioms(th: &Thm) -> usize {
 
 fn states(th: &Thm, prop: &Term) -> bool {
     same_term(th.prop(), prop)
+}
+
+/// Whether the names of the binders are equal, of terms that are equal up to them.
+fn has_names(t: &Term, other: &Term) -> bool {
+    match (t.view(), other.view()) {
+        (TermNode::Abs(name, _, body), TermNode::Abs(second, _, inner)) => {
+            name.same(second) && has_names(body, inner)
+        }
+        (TermNode::App(fun, arg), TermNode::App(head, argument)) => {
+            has_names(fun, head) && has_names(arg, argument)
+        }
+        _ => true,
+    }
 }

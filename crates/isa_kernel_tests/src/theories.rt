@@ -1,3 +1,4 @@
+//! Rows that a theory answers.
 use crate::rows::is_about;
 use isa_kernel::{Theory, TheoryFail};
 use isa_sketch::{Bench, Fault, is_word, number, split, typ};

@@ -1,12 +1,12 @@
 -- Reading an operand and what follows it, from the left.
-use Rattle.std.proofs.Common.{◌≡◌, ℕ, ◌<◌, Bool, true, false, List, [], ◌∷◌, ◌++◌, length, refl, sym, ap, ◌∙◌, arith}
+use Rattle.std.proofs.Common.{◌≡◌, ◌<◌, true, false, List, [], ◌∷◌, ◌++◌, length, refl, sym, ap, ◌∙◌, arith}
 use Rattle.std.specs.Prelude.{fold}
 use Rattle.std.proofs.lemmas.List.Sums.{fold-append}
 use Rattle.isa_tokens.specs.declared.token.Token.{Token}
 use Rattle.isa_outer.specs.declared.refusal.Kind.{Kind}
 use Rattle.isa_outer.specs.Private.Answers.{IsCause}
 use Rattle.isa_outer.specs.Grammar.{◌▸◌, ◌&◌, chain}
-use Rattle.isa_outer.specs.Forms.{Form, many, value, is_optional, Reading, Got, Refuses, begins, read, ◌>>=◌}
+use Rattle.isa_outer.specs.Forms.{Form, many, value, is_optional, Reading, Got, begins, read, ◌>>=◌}
 use Rattle.isa_outer.proofs.Lists.{PairSoFar, pair_start, pair_next, pair_end, pair_refused, begins_behind, behind_sign, dropped}
 
 pub record FoldSoFar (A B : Type 0) (join : A → B → A) (first : Form A) (next : Form B) (tokens rest : List Token) (m : A) : Type 0 where

@@ -5,7 +5,7 @@ use Rattle.isa_outer.specs.declared.facts.Heads.TheVariants.{Simp, Claset, Auto}
 use Rattle.isa_outer.specs.Private.Heads.{head_of}
 use Rattle.isa_outer.specs.Grammar.{claset_method, simp_head, modifier, facts, stands}
 use Rattle.isa_tokens.specs.declared.token.Token.{Token}
-use Rattle.isa_outer.specs.Forms.{Form, begins, is_optional}
+use Rattle.isa_outer.specs.Forms.{begins, is_optional}
 use Rattle.isa_outer.specs.Grammar.{claset_word, claset_head, auto_word, auto_head, colon, colons, constant, unless, command_stands, name, typ, notation, ◌▸◌, ◌&◌}
 use Rattle.isa_outer.specs.Forms.{maybe}
 

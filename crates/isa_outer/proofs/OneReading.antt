@@ -2,7 +2,6 @@
 use Rattle.std.proofs.Common.{◌≡◌, ℕ, Bool, true, false, List, [], ◌∷◌, refl, sym, ap, subst, ◌∙◌}
 use Rattle.std.specs.Prelude.{Option, Some, None}
 use Rattle.isa_tokens.specs.declared.token.Token.{Token}
-use Rattle.isa_outer.specs.declared.refusal.Kind.{Kind}
 use Rattle.isa_outer.specs.declared.refusal.Refused.{Refused}
 use Rattle.isa_outer.specs.declared.command.Command.{Command}
 use Rattle.isa_outer.specs.Forms.{read, Reading, Got, Refuses}

@@ -1,11 +1,10 @@
 -- An operand by the number of parentheses that may be opened.
-use Rattle.std.proofs.Common.{◌≡◌, ◌≢◌, ℕ, zero, suc, ◌-◌, Bool, true, false, List, refl, sym, subst, arith, ap}
+use Rattle.std.proofs.Common.{◌≡◌, ◌≢◌, ℕ, zero, suc, ◌-◌, Bool, true, false, List, sym, subst, arith}
 use Rattle.std.specs.Prelude.{Result}
 use Rattle.std.specs.Borrow.{Bor}
 use Rattle.isa_tokens.specs.declared.token.Token.{Token}
 use Rattle.isa_outer.specs.declared.refusal.Kind.{Kind}
 use Rattle.isa_outer.specs.Methods.{Method}
-use Rattle.isa_outer.specs.Forms.{Form}
 use Rattle.isa_outer.specs.Private.Answers.{Answers}
 use Rattle.isa_outer.specs.Private.Heads.{stops_in}
 use Rattle.isa_outer.specs.Grammar.{layer, operand, choice, simple_method}

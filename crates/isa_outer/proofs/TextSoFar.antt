@@ -1,9 +1,8 @@
 -- Reading the commands of a text, one after the other.
-use Rattle.std.proofs.Common.{◌≡◌, ◌≢◌, ℕ, ◌<◌, true, false, List, [], ◌∷◌, ◌++◌, length, refl, sym, ap, subst, ◌∙◌, append_assoc, append-nil}
+use Rattle.std.proofs.Common.{◌≡◌, ◌≢◌, ℕ, ◌<◌, true, false, List, [], ◌∷◌, ◌++◌, length, sym, ap, subst, ◌∙◌, append_assoc, append-nil}
 use Rattle.std.specs.Prelude.{Option, Some, None, Result, Ok, Err}
 use Rattle.std.specs.Result.{IsErrAnd}
 use Rattle.isa_tokens.specs.declared.token.Token.{Token}
-use Rattle.isa_outer.specs.declared.refusal.Kind.{Kind}
 use Rattle.isa_outer.specs.declared.refusal.Kind.TheVariants as kind
 use Rattle.isa_outer.specs.declared.refusal.Refused.{Refused}
 use Rattle.isa_outer.specs.declared.command.Command.{Command}

@@ -1,11 +1,10 @@
 -- Forms of commands as data, and what it means to read one: the value that is read, or the first refusal.
 use Rattle.std.specs.List.{list_any}
-use Rattle.std.specs.Prelude.{codes, ℕ, zero, suc, ◌+◌, ◌*◌, ◌-◌, Bool, true, false, ◌&&◌, ◌||◌, not, if◌then◌else◌, nat_eq, nat_le, List, [], ◌∷◌, length, Option, Some, None, IsSome}
+use Rattle.std.specs.Prelude.{codes, ℕ, zero, suc, ◌+◌, ◌*◌, ◌-◌, Bool, true, false, ◌&&◌, ◌||◌, if◌then◌else◌, nat_eq, nat_le, List, [], ◌∷◌, length, Option, Some, None}
 use Rattle.isa_terms.specs.Equal.{name_eq}
 use Rattle.isa_tokens.specs.declared.token.Token.{Token}
 use Rattle.isa_tokens.specs.declared.token.Lexeme.{Lexeme}
-use Rattle.isa_tokens.specs.declared.token.Lexeme.TheVariants.{Name, Text, TypeVariable, Number, Colons, Sign, End, Broken}
-use Rattle.isa_tokens.specs.declared.token.Fault.{Fault}
+use Rattle.isa_tokens.specs.declared.token.Lexeme.TheVariants.{Name, Number, Sign, Broken}
 use Rattle.isa_tokens.specs.declared.token.Fault.TheVariants as fault
 use Rattle.isa_outer.specs.declared.refusal.Sort.{Sort}
 use Rattle.isa_outer.specs.declared.refusal.Kind.{Kind}

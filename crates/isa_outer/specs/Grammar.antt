@@ -3,7 +3,7 @@
 -- Source: the Isabelle/Isar Reference Manual, chapters "Outer syntax", "Specifications", "Proofs" and "Generic tools and packages"; the exact
 -- forms, `logic`, `simproc`, `wrapper`, `match`, `prefix` and `weight` are this project's own.
 use Prim.Native.String.{String}
-use Rattle.std.specs.Prelude.{ℕ, zero, suc, Bool, true, false, ◌&&◌, ◌||◌, not, if◌then◌else◌, nat_eq, List, [], ◌∷◌, length, Option, Some, None, codes, fold}
+use Rattle.std.specs.Prelude.{ℕ, zero, suc, Bool, true, false, ◌||◌, not, if◌then◌else◌, List, [], ◌∷◌, Option, Some, None, codes, fold}
 use Rattle.std.specs.List.{list_any, list_all}
 use Rattle.isa_terms.specs.Equal.{name_eq}
 use Rattle.isa_tokens.specs.declared.token.Token.{Token}

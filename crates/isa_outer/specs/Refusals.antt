@@ -43,4 +43,5 @@ text_of (kind.Role name) = codes "wrong form for " ++ name
 text_of kind.InProof = codes "proof is open"
 text_of kind.NoProof = codes "no proof is open"
 text_of kind.OpenProof = codes "proof not closed"
+text_of kind.NotBuilt = codes "not built yet"
 text_of kind.Memory = []

@@ -1,5 +1,5 @@
 -- The definition on some lines.
-use Rattle.std.specs.Prelude.{◌≡◌, codes, ℕ, List, [], ◌∷◌}
+use Rattle.std.specs.Prelude.{◌≡◌, codes, List, [], ◌∷◌}
 use Rattle.isa_tokens.specs.declared.token.Token.{Token}
 use Rattle.isa_tokens.specs.declared.token.Lexeme.{Lexeme}
 use Rattle.isa_tokens.specs.declared.token.Lexeme.TheVariants as lexeme

@@ -1,6 +1,6 @@
 -- The commands of a whole text, and the line of a refusal.
 -- Source: theory files of the Isabelle/Isar Reference Manual, chapter "Outer syntax"; the lines of refusals are this project's own.
-use Rattle.std.specs.Prelude.{◌≡◌, ◌≢◌, ℕ, Bool, true, false, List, [], ◌∷◌, Option, Some, None, Result, Ok, Err}
+use Rattle.std.specs.Prelude.{◌≡◌, ◌≢◌, ℕ, zero, suc, ◌+◌, Bool, true, false, if◌then◌else◌, List, [], ◌∷◌, length, Option, Some, None, Result, Ok, Err}
 use Rattle.isa_tokens.specs.declared.token.Token.{Token}
 use Rattle.isa_tokens.specs.declared.token.Lexeme.{Lexeme}
 use Rattle.isa_tokens.specs.declared.token.Lexeme.TheVariants.{Name, End}
@@ -59,3 +59,33 @@ AnswersText text (Err refused) = refused.kind ≢ kind.Memory → (tokens : List
 abbrev pub OneReading : Type 0
 OneReading = (tokens : List Token) (commands others : List Command) (refusal other : Option Refused)
     → Reads None tokens commands refusal → Reads None tokens others other → (commands ≡ others) × (refusal ≡ other)
+
+-- The tokens hold what is answered, want of memory aside.
+abbrev pub IsReading : List Token → Result (List Command) Refused → Type 0
+IsReading tokens (Ok commands) = Reads None tokens commands None
+IsReading tokens (Err refused) = (commands : List Command) × Reads None tokens commands (Some refused)
+
+-- The same as a function: the commands of the tokens behind a command of the line `last`, or the first refusal. n is above the number of tokens.
+abbrev pub with_command : Command → Result (List Command) Refused → Result (List Command) Refused
+with_command c (Ok cs) = Ok (c ∷ cs)
+with_command c (Err refused) = Err refused
+
+abbrev pub commands_within : ℕ → Option ℕ → List Token → Result (List Command) Refused
+commands_within zero last ts = Ok []
+commands_within (suc n) last ts = if is_end ts then Ok [] else elim (read (command (first_line ts)) ts) [
+  | Got c rest ↦ with_command c (commands_within n (Some (first_line ts)) rest)
+  | Refuses cause ↦ Err (record { line = line_at last ts; kind = cause })
+]
+
+-- what a text holds: its commands, or the first refusal in it
+unfoldable pub reading_of : List ℕ → Result (List Command) Refused
+reading_of text = let tokens = lexer.tokens_of text in commands_within (length tokens + 1) None tokens
+
+-- Each text has a reading: that of the function.
+abbrev pub EachIsRead : Type 0
+EachIsRead = (text : List ℕ) → (tokens : List Token) × lexer.Reads text text tokens × IsReading tokens (reading_of text)
+
+-- the answer is what the text holds, want of memory aside
+abbrev pub Meets : Result (List Command) Refused → Result (List Command) Refused → Type 0
+Meets (Ok commands) wanted = wanted ≡ Ok commands
+Meets (Err refused) wanted = refused.kind ≢ kind.Memory → wanted ≡ Err refused

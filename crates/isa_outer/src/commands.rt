@@ -1,7 +1,7 @@
 //! The commands of a text.
 ghost use Rattle.std.specs.Prelude.{◌≡◌, ◌<◌, ◌^◌, length, None};
 ghost use Rattle.isa_outer.specs.Grammar.{theory_command, proof_command, command};
-ghost use Rattle.isa_outer.specs.Texts.{is_end, first_line, line_at, AnswersText, AnswersTokens};
+ghost use Rattle.isa_outer.specs.Texts.{is_end, first_line, line_at, reading_of, AnswersText, AnswersTokens, Meets};
 ghost use Rattle.isa_outer.specs.Private.Answers.{Answers, AnswersNext, Offers};
 
 use crate::command::Command;
@@ -185,10 +185,18 @@ pub fn read_tokens<'a, 't>(alloc: Global, tokens: &'a [Token<'t>]) -> Result<Lis
     Ok(commands)
 }
 
-/// The commands of a theory file, or the first refusal in it. Texts in quotes are not read yet, and facts not looked up.
-pub fn read_commands(alloc: Global, text: &[u8]) -> Result<List<Command>, Refused>
+/// The commands of a text, or the first refusal in it.
+fn commands_in(alloc: Global, text: &[u8]) -> Result<List<Command>, Refused>
     ensures { AnswersText text.now result }
 {
     let tokens = tokens(alloc, text)?;
     read_tokens(alloc, tokens.as_slice())
+}
+
+/// The commands of a theory file, or the first refusal in it. Texts in quotes are not read yet, and facts not looked up.
+pub fn read_commands(alloc: Global, text: &[u8]) -> Result<List<Command>, Refused>
+    ensures holds { AnswersText text.now result }
+    ensures is { Meets result (reading_of text.now) }
+{
+    commands_in(alloc, text)
 }

@@ -2,7 +2,7 @@
 #![tactic(auto)]
 
 ghost use Rattle.isa_outer.specs.Samples.{Samples};
-ghost use Rattle.isa_outer.specs.Texts.{OneReading};
+ghost use Rattle.isa_outer.specs.Texts.{OneReading, EachIsRead};
 
 mod attributes;
 mod command;
@@ -33,4 +33,9 @@ pub fn samples()
 /// A list of tokens has one reading: the commands, and the first refusal where there is one.
 pub fn one_reading()
     ensures { OneReading }
+{}
+
+/// Each text has a reading.
+pub fn each_is_read()
+    ensures { EachIsRead }
 {}

@@ -99,6 +99,8 @@ pub enum Kind {
     NoProof,
     /// The file ends in a proof.
     OpenProof,
+    /// The language has it, and the program does not yet.
+    NotBuilt,
     /// No memory was left.
     Memory,
 }

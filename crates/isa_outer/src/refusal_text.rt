@@ -117,6 +117,7 @@ impl Kind {
             Kind::InProof => plain("proof is open"),
             Kind::NoProof => plain("no proof is open"),
             Kind::OpenProof => plain("proof not closed"),
+            Kind::NotBuilt => plain("not built yet"),
             Kind::Memory => plain(""),
         }
     }

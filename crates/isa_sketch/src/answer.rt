@@ -1,3 +1,4 @@
+//! What is printed of a row.
 use crate::fault::Fault;
 use std::alloc::AllocError;
 use std::io;

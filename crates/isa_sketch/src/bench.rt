@@ -1,3 +1,4 @@
+//! What rows are read over: words, and a theory.
 use crate::fault::Fault;
 use crate::rule::Rule;
 use crate::stack::Stack;

@@ -1,3 +1,4 @@
+//! Why words give no result.
 use isa_kernel::{AxiomFail, InferenceError};
 use isa_terms::Name;
 use std::alloc::AllocError;

@@ -1,3 +1,5 @@
+//! The inferences of the kernel by name.
+
 /// An inference of the kernel.
 #[derive(Clone, Copy)]
 pub enum Rule {
@@ -18,6 +20,12 @@ pub enum Rule {
     EqualElim,
     Instantiate,
     Generalize,
+    Rename,
+    Discharge,
+    Undischarge,
+    NormalForm,
+    /// With the number of the cite.
+    Cite(u64),
 }
 
 impl Rule {
@@ -32,7 +40,21 @@ impl Rule {
             "forall_elim" => Some(Rule::ForallElim),
             "instantiate" => Some(Rule::Instantiate),
             "generalize" => Some(Rule::Generalize),
-            _ => Rule::of_equations(word),
+            "rename" => Some(Rule::Rename),
+            "discharge" => Some(Rule::Discharge),
+            "undischarge" => Some(Rule::Undischarge),
+            _ => match word.strip_prefix("cite:") {
+                Some(number) => Rule::of_cite(number),
+                None => Rule::of_equations(word),
+            },
+        }
+    }
+
+    /// The cite by that number.
+    fn of_cite(number: &str) -> Option<Rule> {
+        match number.parse::<u64>() {
+            Ok(number) => Some(Rule::Cite(number)),
+            Err(_) => None,
         }
     }
 
@@ -48,6 +70,7 @@ impl Rule {
             "eta" => Some(Rule::Eta),
             "equal_intr" => Some(Rule::EqualIntr),
             "equal_elim" => Some(Rule::EqualElim),
+            "normal_form" => Some(Rule::NormalForm),
             _ => None,
         }
     }

@@ -1,14 +1,15 @@
+//! Reading words into terms, theorems, an instance and names.
 use crate::fault::{Fault, axiom_fault, inference_fault};
 use crate::rule::Rule;
 use crate::symbols::Symbols;
 use crate::terms::TermStack;
 use crate::types::typ;
 use isa_kernel::{
-    InferenceError, Theory, Thm, abstract_rule, assume, axiom, beta, combination, equal_elim,
-    equal_intr, eta, forall_elim, forall_intr, generalize, implies_elim, implies_intr,
-    instantiate_thm, reflexive, symmetric, transitive,
+    InferenceError, Theory, Thm, abstract_rule, assume, axiom, beta, combination, discharge,
+    equal_elim, equal_intr, eta, forall_elim, forall_intr, generalize, implies_elim, implies_intr,
+    instantiate_thm, normal_form, reflexive, rename, symmetric, transitive, undischarge,
 };
-use isa_terms::{Inst, Name, Names, Term, TermNode};
+use isa_terms::{Inst, Name, Names, Term, TermNode, Terms};
 use std::alloc::Global;
 
 /// Terms and theorems, of which the one that was written last is taken first, and an instance and names.
@@ -48,8 +49,9 @@ impl Stack {
     }
 
     /// Reads words from the last to the first. Each takes what it needs of that which stands behind it: the name of an
-    /// inference takes its arguments, `put` an unknown and a term for it, `'a:=T` puts a type for the type unknown `'a`,
-    /// `name` takes a free variable for its name, and the others are those of terms.
+    /// inference takes its arguments, and `discharge` and `undischarge` all terms that are left, `put` an unknown and a term
+    /// for it, `'a:=T` puts a type for the type unknown `'a`, `name` takes a free variable for its name, and the others are
+    /// those of terms.
     pub fn read(
         &mut self,
         alloc: Global,
@@ -113,10 +115,16 @@ impl Stack {
     pub fn derive(&mut self, alloc: Global, theory: &Theory, rule: Rule) -> Result<Thm, Fault> {
         match rule {
             Rule::Axiom => self.by_axiom(alloc, theory),
-            Rule::Assume | Rule::Reflexive | Rule::Beta | Rule::Eta => self.of_term(alloc, rule),
-            Rule::ImpliesIntr | Rule::ForallIntr | Rule::ForallElim | Rule::AbstractRule => {
-                self.of_both(alloc, rule)
+            Rule::Assume | Rule::Reflexive | Rule::Beta | Rule::Eta | Rule::NormalForm => {
+                self.of_term(alloc, rule)
             }
+            Rule::ImpliesIntr
+            | Rule::ForallIntr
+            | Rule::ForallElim
+            | Rule::AbstractRule
+            | Rule::Rename => self.of_both(alloc, rule),
+            Rule::Discharge | Rule::Undischarge => self.of_premises(alloc, rule),
+            Rule::Cite(number) => self.cited(alloc, number),
             Rule::Symmetric | Rule::Instantiate | Rule::Generalize => self.of_thm(alloc, rule),
             Rule::ImpliesElim
             | Rule::Transitive
@@ -140,6 +148,7 @@ impl Stack {
             Rule::Assume => assume(alloc, &t),
             Rule::Reflexive => reflexive(alloc, &t),
             Rule::Beta => beta(alloc, &t),
+            Rule::NormalForm => normal_form(alloc, &t),
             _ => eta(alloc, &t),
         })
     }
@@ -151,6 +160,7 @@ impl Stack {
             Rule::ImpliesIntr => implies_intr(alloc, &t, &th),
             Rule::ForallIntr => forall_intr(alloc, &t, &th),
             Rule::ForallElim => forall_elim(alloc, &t, &th),
+            Rule::Rename => rename(alloc, &t, &th),
             _ => abstract_rule(alloc, &t, &th),
         })
     }
@@ -162,6 +172,29 @@ impl Stack {
             Rule::Instantiate => instantiate_thm(alloc, &self.inst, &th),
             _ => generalize(alloc, &self.names, &th),
         })
+    }
+
+    /// Of all terms that stand behind the word, as premises.
+    fn of_premises(&mut self, alloc: Global, rule: Rule) -> Result<Thm, Fault> {
+        let th = self.take_thm()?;
+        let mut premises = Terms::new(alloc);
+        while !self.terms.is_empty() {
+            premises.push(self.terms.take()?)?;
+        }
+        answered(match rule {
+            Rule::Discharge => discharge(alloc, premises.as_slice(), &th),
+            _ => undischarge(alloc, premises.as_slice(), &th),
+        })
+    }
+
+    /// The theorem cited; words that give hypotheses have no meaning here.
+    fn cited(&mut self, alloc: Global, number: u64) -> Result<Thm, Fault> {
+        let th = self.take_thm()?;
+        if th.hyps().is_empty() {
+            Ok(th.cite(alloc, number)?)
+        } else {
+            Err(Fault::Words)
+        }
     }
 
     fn of_two(&mut self, alloc: Global, rule: Rule) -> Result<Thm, Fault> {

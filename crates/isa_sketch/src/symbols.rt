@@ -1,3 +1,4 @@
+//! Words that stand for constants, free variables and unknowns.
 use crate::fault::Fault;
 use crate::types::typ;
 use crate::words::split;

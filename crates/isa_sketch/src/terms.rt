@@ -1,3 +1,4 @@
+//! Reading words into terms.
 use crate::fault::Fault;
 use crate::symbols::Symbols;
 use crate::types::typ;

@@ -1,3 +1,4 @@
+//! Reading letters into types.
 use crate::fault::Fault;
 use isa_terms::{Name, Typ, TypNode, Typs, function_type};
 use std::alloc::Global;

@@ -1,3 +1,4 @@
+//! Words of a text, and numbers.
 use crate::fault::Fault;
 
 /// Whether the text is the word.

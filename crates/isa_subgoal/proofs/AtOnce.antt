@@ -1,7 +1,7 @@
 -- Premises that are eliminated, or introduced, one after the other, and all at once.
 use Rattle.std.specs.Prelude.{option_and_then, Result}
 use Rattle.std.proofs.Common.{◌≡◌, List, [], ◌∷◌, Bool, true, false, cond, ◌||◌, ◌&&◌, Option, Some, None, refl, sym, ap, ◌∙◌, subst, append-nil}
-use Rattle.isa_terms.specs.Terms.{Tm, bare}
+use Rattle.isa_terms.specs.Terms.{Tm}
 use Rattle.isa_terms.specs.Equal.{tm_eq}
 use Rattle.isa_terms.specs.Sets.{has, missing, joined, without}
 use Rattle.isa_terms.specs.Typing.{type_at}
@@ -13,13 +13,12 @@ use Rattle.isa_kernel.specs.declared.base.BaseEntry.{BaseEntry}
 use Rattle.isa_kernel.specs.declared.inference.InferenceError.{InferenceError}
 use Rattle.isa_kernel.specs.Axioms.{joined_bases}
 use Rattle.isa_kernel.specs.Theorem.{Theorem, IsDerived}
-use Rattle.isa_kernel.specs.Inferences.{Answers, has_type, assumed, implies_introduced, implies_eliminated}
+use Rattle.isa_kernel.specs.Inferences.{Answers, has_type, assumed, implies_introduced}
 use Rattle.isa_kernel.specs.Derived.{are_propositions, discharged, conclusion_behind, with_premises, undischarged}
-use Rattle.isa_kernel.specs.Derived as derived
 use Rattle.isa_kernel.proofs.Parts.{imp_made}
 use Rattle.isa_kernel.proofs.Preserved.{imp_both}
 use Rattle.isa_subgoal.specs.Premises.{implies}
-use Rattle.isa_subgoal.specs.Steps.{eliminated, introduced}
+use Rattle.isa_subgoal.specs.Private.Steps.{eliminated, introduced}
 use Rattle.isa_subgoal.proofs.Deriving.{has_type_of, derived_propositions}
 
 -- ---- introduced
@@ -33,24 +32,20 @@ without_missing p ps (h ∷ hs) = go (has ps h) (tm_eq p h) refl (without_missin
     go false true e r = ap (λ d. cond d (without p (missing ps hs)) (h ∷ without p (missing ps hs))) e ∙ r
     go false false e r = ap (λ d. cond d (without p (missing ps hs)) (h ∷ without p (missing ps hs))) e ∙ ap (λ xs. h ∷ xs) r
 
-same_implies : (ps : List Tm) (q : Tm) → implies ps q ≡ derived.implies ps q
-same_implies [] q = refl
-same_implies (p ∷ ps) q = ap (imp p) (same_implies ps q)
-
-missing_nothing : (H : List Tm) → missing [] H ≡ H
+pub missing_nothing : (H : List Tm) → missing [] H ≡ H
 missing_nothing [] = refl
 missing_nothing (h ∷ hs) = ap (λ xs. h ∷ xs) (missing_nothing hs)
 
-introduced_at_once : (ps : List Tm) (th : Theorem) → introduced ps th ≡ discharged ps th
+pub introduced_at_once : (ps : List Tm) (th : Theorem) → introduced ps th ≡ discharged ps th
 unfolding introduced
 introduced_at_once [] th = λ i. Some (record { hyps = sym (missing_nothing th.hyps) i; prop = th.prop; base = th.base })
 introduced_at_once (p ∷ ps) th =
     ap (λ o. option_and_then {T = Theorem} {U = Theorem} (λ x. implies_introduced p x) o) (introduced_at_once ps th)
     ∙ go (are_propositions ps) (has_type p prop)
-    ∙ ap (λ hs. cond (has_type p prop && are_propositions ps) (Some (record { hyps = hs; prop = imp p (derived.implies ps th.prop); base = th.base })) None) (without_missing p ps th.hyps)
+    ∙ ap (λ hs. cond (has_type p prop && are_propositions ps) (Some (record { hyps = hs; prop = imp p (implies ps th.prop); base = th.base })) None) (without_missing p ps th.hyps)
   where
-    go : (b c : Bool) → option_and_then {T = Theorem} {U = Theorem} (λ x. cond c (Some (record { hyps = without p x.hyps; prop = imp p x.prop; base = x.base })) None) (cond b (Some (record { hyps = missing ps th.hyps; prop = derived.implies ps th.prop; base = th.base })) None)
-        ≡ cond (c && b) (Some (record { hyps = without p (missing ps th.hyps); prop = imp p (derived.implies ps th.prop); base = th.base })) None
+    go : (b c : Bool) → option_and_then {T = Theorem} {U = Theorem} (λ x. cond c (Some (record { hyps = without p x.hyps; prop = imp p x.prop; base = x.base })) None) (cond b (Some (record { hyps = missing ps th.hyps; prop = implies ps th.prop; base = th.base })) None)
+        ≡ cond (c && b) (Some (record { hyps = without p (missing ps th.hyps); prop = imp p (implies ps th.prop); base = th.base })) None
     go true true = refl
     go true false = refl
     go false true = refl
@@ -63,7 +58,7 @@ introduces ps th answer a = subst (λ (o : Option Theorem). Answers answer o) (s
 abbrev theorem : List Tm → Tm → List BaseEntry → Theorem
 theorem H p B = record { hyps = H; prop = p; base = B }
 
-premise_proposition : (t : Tm) (q : Tm × Tm) (p : Tm) → Typed [] t prop → imp_parts t ≡ Some q → tm_eq q.0 p ≡ true → IsProposition p × Typed [] q.1 prop
+pub premise_proposition : (t : Tm) (q : Tm × Tm) (p : Tm) → Typed [] t prop → imp_parts t ≡ Some q → tm_eq q.0 p ≡ true → IsProposition p × Typed [] q.1 prop
 premise_proposition t q p d e k =
     let both = imp_both (subst (λ u. Typed [] u prop) (imp_made t q e) d) in
     (sym (type_at_bare [] p) ∙ ap (type_at []) (sym ((tm_decides q.0 p).0 k)) ∙ type_at_bare [] q.0 ∙ type_of_typed both.0, both.1)
@@ -102,7 +97,7 @@ module _ (p : Tm) (ps H : List Tm) (t : Tm) (B : List BaseEntry) where
   either None e d ih = none_after (has_type p prop) (theorem (p ∷ []) p [])
   either (Some q) e d ih = test q (tm_eq q.0 p) refl e d (λ k. ih q e k)
 
-eliminated_at_once : (ps H : List Tm) (t : Tm) (B : List BaseEntry) → Typed [] t prop → eliminated ps (theorem H t B) ≡ undischarged ps (theorem H t B)
+pub eliminated_at_once : (ps H : List Tm) (t : Tm) (B : List BaseEntry) → Typed [] t prop → eliminated ps (theorem H t B) ≡ undischarged ps (theorem H t B)
 unfolding eliminated
 eliminated_at_once [] H t B d = refl
 eliminated_at_once (p ∷ ps) H t B d = either p ps H t B (imp_parts t) refl d (λ q e k. eliminated_at_once ps (joined H (p ∷ [])) q.1 B (premise_proposition t q p d e k).1)

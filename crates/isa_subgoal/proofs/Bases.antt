@@ -1,6 +1,6 @@
 -- The inferences on premises keep the base of a rule.
 use Rattle.std.specs.Prelude.{not}
-use Rattle.std.proofs.Common.{◌≡◌, length, ◌&&◌, List, [], ◌∷◌, ◌++◌, map, Bool, true, false, cond, Option, Some, None, refl, sym, ap, ◌∙◌, subst, append-nil}
+use Rattle.std.proofs.Common.{◌≡◌, length, ◌&&◌, List, [], ◌∷◌, map, Bool, true, false, cond, Option, Some, None, sym, ap, ◌∙◌, append-nil}
 use Rattle.isa_terms.specs.Terms.{Tm}
 use Rattle.isa_terms.specs.Equal.{tm_eq}
 use Rattle.isa_terms.specs.Sets.{joined, without}
@@ -9,15 +9,14 @@ use Rattle.isa_terms.specs.Instance.{Instance, in_tms, instance_of}
 use Rattle.isa_terms.proofs.Functions.{bind_some, cond_some}
 use Rattle.isa_kernel.specs.Logic.{prop, imp, all}
 use Rattle.isa_kernel.specs.Forms.{imp_parts, quantifier_parts, free_parts, at}
-use Rattle.isa_kernel.specs.declared.base.BaseEntry.{BaseEntry}
 use Rattle.isa_kernel.specs.Axioms.{joined_bases}
 use Rattle.isa_kernel.specs.Theorem.{Theorem}
 use Rattle.isa_kernel.specs.Inferences.{has_type, keeps, assumed, implies_introduced, implies_eliminated, forall_introduced, forall_eliminated, instantiated}
 use Rattle.isa_subgoal.specs.declared.lift.Parameter.{Parameter}
 use Rattle.isa_subgoal.specs.Premises.{implies, premises, rule_form}
-use Rattle.isa_subgoal.specs.Reshaping.{opened}
-use Rattle.isa_subgoal.specs.Steps.{eliminated, introduced, met_under, raised}
-use Rattle.isa_subgoal.specs.Lifting.{lifted_entries, raised_at, specialized, quantified_over, met_over, lifted_over, lifted_by}
+use Rattle.isa_subgoal.specs.Private.Reshaping.{opened}
+use Rattle.isa_subgoal.specs.Private.Steps.{eliminated, introduced, met_under, raised_by}
+use Rattle.isa_subgoal.specs.Private.Lifting.{lifted_entries, raised_at, specialized, quantified_over, met_over, lifted_over, lifted_by}
 use Rattle.isa_subgoal.proofs.Stating.{renamed_is}
 
 -- ---- the inferences of the kernel
@@ -91,8 +90,8 @@ under_base hs (p ∷ ps) th x e =
     let n = bind_some (implies_eliminated th b.0) _ b.2 in
     under_base hs ps n.0 x n.2 ∙ met_one th b.0 n.0 (eliminated_base hs a.0 b.0 b.1 ∙ assumed_base (implies hs p) a.0 a.1) n.1
 
-pub raised_base : (hs ps : List Tm) (th x : Theorem) → raised hs ps th ≡ Some x → x.base ≡ th.base
-unfolding raised
+pub raised_base : (hs ps : List Tm) (th x : Theorem) → raised_by hs ps th ≡ Some x → x.base ≡ th.base
+unfolding raised_by
 raised_base hs ps th x e =
     let c = bind_some (met_under hs ps th) _ e in
     let i = bind_some (introduced hs c.0) _ c.2 in

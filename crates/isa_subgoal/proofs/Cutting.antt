@@ -14,7 +14,7 @@ use Rattle.isa_kernel.proofs.Sound.{assumed_sound, implies_introduced_sound, imp
 use Rattle.isa_terms.proofs.Functions.{bind_some}
 use Rattle.isa_kernel.proofs.Members.{Member-left, Member-right, Within-append, Member-without}
 use Rattle.isa_subgoal.specs.Premises.{implies}
-use Rattle.isa_subgoal.specs.Steps.{eliminated, introduced, cut, met_under, raised}
+use Rattle.isa_subgoal.specs.Private.Steps.{eliminated, introduced, cut_by, met_under, raised_by}
 use Rattle.isa_subgoal.proofs.Deriving.{tm_eq_same, has_type_of, ArePropositions, implies_append, implies_proposition, propositions_under}
 
 -- the hypotheses after premises were assumed, and after some were brought in
@@ -86,9 +86,9 @@ two_none ps qs H w = fewer_append ps qs H ∙ fewer_none (ps ++ qs) H w
 
 -- a rule's premises come in the place of the subgoal that its conclusion equals
 pub cut_is : (us bs vs : List Tm) (B C : List BaseEntry) (a r c : Tm) → ArePropositions us → ArePropositions bs → tm_eq a r ≡ true →
-    cut us bs (record { hyps = []; prop = implies (us ++ (a ∷ vs)) c; base = B }) (record { hyps = []; prop = implies bs r; base = C })
+    cut_by us bs (record { hyps = []; prop = implies (us ++ (a ∷ vs)) c; base = B }) (record { hyps = []; prop = implies bs r; base = C })
     ≡ Some (record { hyps = []; prop = implies (us ++ (bs ++ vs)) c; base = joined_bases B C })
-unfolding cut
+unfolding cut_by
 cut_is us bs vs B C a r c wu wb e =
     let K : List Tm = joined (more_hyps [] us) (more_hyps [] bs) in
     let k_in : Within K (us ++ bs) = joined_within (more_hyps [] us) (more_hyps [] bs) (us ++ bs)
@@ -134,9 +134,9 @@ met_within H hs (p ∷ ps) vs f g h =
     only t (inr m) = absurd m
 
 -- the premises and the conclusion of a rule come under the assumptions
-pub raised_is : (hs ps : List Tm) (B : List BaseEntry) (q : Tm) → ArePropositions hs → ArePropositions ps → raised hs ps (record { hyps = []; prop = implies ps q; base = B }) ≡ Some (record { hyps = []; prop = implies (map (implies hs) ps) (implies hs q); base = B })
-unfolding raised
-raised_is hs ps B q w v =
+pub raised_by_is : (hs ps : List Tm) (B : List BaseEntry) (q : Tm) → ArePropositions hs → ArePropositions ps → raised_by hs ps (record { hyps = []; prop = implies ps q; base = B }) ≡ Some (record { hyps = []; prop = implies (map (implies hs) ps) (implies hs q); base = B })
+unfolding raised_by
+raised_by_is hs ps B q w v =
     let K : List Tm = met_hyps [] hs ps in
     let news : List Tm = map (implies hs) ps in
     let k_in : Within K (news ++ hs) = met_within [] hs ps (news ++ hs) (λ t m. absurd m) (λ t m. Member-right t news hs m) (λ t m. Member-left t news hs m) in
@@ -170,8 +170,8 @@ met_sound hs (p ∷ ps) th x e d =
     let n = bind_some (implies_eliminated th b.0) _ b.2 in
     met_sound hs ps n.0 x n.2 (implies_eliminated_sound th b.0 n.0 n.1 d (eliminated_sound hs a.0 b.0 b.1 (assumed_sound (implies hs p) a.0 a.1)))
 
-pub raised_sound : (hs ps : List Tm) (th x : Theorem) → raised hs ps th ≡ Some x → IsDerived th → IsDerived x
-unfolding raised
+pub raised_sound : (hs ps : List Tm) (th x : Theorem) → raised_by hs ps th ≡ Some x → IsDerived th → IsDerived x
+unfolding raised_by
 raised_sound hs ps th x e d =
     let c = bind_some (met_under hs ps th) _ e in
     let i = bind_some (introduced hs c.0) _ c.2 in

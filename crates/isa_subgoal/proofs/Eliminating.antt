@@ -1,6 +1,6 @@
 -- The rule for elimination that the inferences give.
 use Rattle.std.specs.Prelude.{option_and_then, Result}
-use Rattle.std.proofs.Common.{◌≡◌, inl, inr, ℕ, List, [], ◌∷◌, ◌++◌, cond, Option, Some, None, refl, sym, ap, ◌∙◌, subst}
+use Rattle.std.proofs.Common.{◌≡◌, ℕ, List, [], ◌∷◌, ◌++◌, cond, Option, Some, None, refl, ap, ◌∙◌, subst}
 use Rattle.isa_terms.specs.Terms.{Tm, bare}
 use Rattle.isa_terms.specs.Sets.{joined}
 use Rattle.isa_kernel.specs.Logic.{prop, imp, IsProposition}
@@ -13,11 +13,11 @@ use Rattle.isa_kernel.specs.Inferences.{Answers, has_type, implies_eliminated}
 use Rattle.isa_kernel.proofs.Members.{bares, Member-left, Member-right}
 use Rattle.isa_subgoal.specs.Premises.{implies, premises, conclusion, rule_of}
 use Rattle.isa_subgoal.specs.Elimination.{conclusion_unknown, elimination_of}
-use Rattle.isa_subgoal.specs.Steps.{eliminated, introduced, eliminated_into}
+use Rattle.isa_subgoal.specs.Private.Steps.{introduced, eliminated_into}
 use Rattle.isa_subgoal.proofs.Counts.{parts_made}
 use Rattle.isa_subgoal.proofs.Stating.{bases_none}
 use Rattle.isa_subgoal.proofs.Deriving.{ArePropositions, tm_eq_same, has_type_of, implies_proposition, propositions_append, derived_propositions}
-use Rattle.isa_subgoal.proofs.Cutting.{more_hyps, fewer_hyps, fewer_none, eliminated_is, introduced_is, joined_within, more_within}
+use Rattle.isa_subgoal.proofs.Cutting.{more_hyps, fewer_none, eliminated_is, introduced_is, joined_within, more_within}
 
 pub eliminated_into_is : (ps : List Tm) (b r : Tm) (B : List BaseEntry) → ArePropositions ps → IsProposition b → IsProposition r → eliminated_into ps (imp b r) (ps ++ imp b r ∷ []) (rule_of ps b B) ≡ Some (rule_of (ps ++ imp b r ∷ []) r B)
 unfolding eliminated_into

@@ -1,29 +1,29 @@
 -- No inference refuses where a normal rule is lifted.
-use Rattle.std.specs.Prelude.{option_and_then, is_some, not}
-use Rattle.std.proofs.Common.{◌≡◌, inl, inr, ℕ, zero, suc, ◌+◌, ◌-◌, ◌<◌, ◌≤◌, max, arith, length, List, [], ◌∷◌, ◌++◌, map, Bool, true, false, cond, ◌||◌, ◌&&◌, nat_eq, nat_lt, Option, Some, None, unwrap_or, refl, sym, ap, ◌∙◌, subst, append-nil}
+use Rattle.std.specs.Prelude.{is_some, not}
+use Rattle.std.proofs.Common.{◌≡◌, ℕ, zero, suc, ◌+◌, ◌-◌, ◌<◌, ◌≤◌, arith, length, List, [], ◌∷◌, ◌++◌, map, Bool, true, false, cond, ◌||◌, ◌&&◌, nat_eq, Some, None, unwrap_or, refl, sym, ap, ◌∙◌, subst}
 use Rattle.std.specs.List.{slice_get}
-use Rattle.std.proofs.lemmas.Bool.Decides.{Decides-eqb, nat_tests}
+use Rattle.std.proofs.lemmas.Bool.Decides.{Decides-eqb}
 use Rattle.std.specs.Cmp.Lexicographic.{bytes_decides}
 use Rattle.isa_terms.specs.Types.{Ty}
-use Rattle.isa_terms.specs.Terms.{Tm, Const, Free, Unknown, Bound, Abs, App, bare}
-use Rattle.isa_terms.specs.Equal.{name_eq, ty_eq, tm_eq}
+use Rattle.isa_terms.specs.Terms.{Tm, Const, Free, Unknown, Bound, Abs, App}
+use Rattle.isa_terms.specs.Equal.{name_eq, ty_eq}
 use Rattle.isa_terms.specs.Norm.{norm, loose}
 use Rattle.isa_terms.specs.Normal.{redex_at, redex, IsHead, IsNormal}
-use Rattle.isa_terms.specs.Typing.{function_of, HasType}
+use Rattle.isa_terms.specs.Typing.{HasType}
 use Rattle.isa_terms.specs.Instance.{find_term, inst_ty, inst_tm, set_term, same_unknown}
 use Rattle.isa_terms.specs.declared.inst.TermEntry.{TermEntry}
 use Rattle.isa_terms.proofs.Equal.{ty_decides}
-use Rattle.isa_terms.proofs.Typed.{Typed, TConst, TFree, TUnknown, TBound, TAbs, TApp, type_of_typed, typed_of_type}
+use Rattle.isa_terms.proofs.Typed.{Typed, TConst, TFree, TUnknown, TBound, TAbs, TApp, type_of_typed}
 use Rattle.isa_terms.proofs.NormalForms.{norm_same}
-use Rattle.isa_kernel.specs.Logic.{prop, imp, all}
+use Rattle.isa_kernel.specs.Logic.{imp}
 use Rattle.isa_kernel.specs.Inferences.{has_type, keeps, typed_as, instantiated}
 use Rattle.isa_kernel.specs.Theorem.{Theorem}
 use Rattle.isa_kernel.proofs.Fill.{Var, types, filled, fill, fill_below, fill_above, fill_typed, get_past, get_own, within_length, one_more}
 use Rattle.isa_subgoal.specs.declared.lift.Parameter.{Parameter}
 use Rattle.isa_subgoal.specs.Premises.{implies}
-use Rattle.isa_subgoal.specs.Reshaping.{opened}
+use Rattle.isa_subgoal.specs.Private.Reshaping.{opened}
 use Rattle.isa_subgoal.specs.Lift.{over_types, applied, lift, types_under}
-use Rattle.isa_subgoal.specs.Lifting.{lifted_entries}
+use Rattle.isa_subgoal.specs.Private.Lifting.{lifted_entries}
 use Rattle.isa_subgoal.proofs.Entries.{term_set_keeps, term_set_has}
 use Rattle.isa_subgoal.proofs.Instancing.{empty_ty}
 use Rattle.isa_subgoal.proofs.Opening.{frees, opened_is}

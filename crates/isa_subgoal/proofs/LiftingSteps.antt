@@ -1,39 +1,39 @@
 -- The inferences that lift a rule answer the lifted rule.
 use Rattle.std.specs.Prelude.{option_and_then, Result, Ok, Err}
-use Rattle.std.proofs.Common.{◌≡◌, inl, inr, ℕ, zero, suc, ◌+◌, ◌<◌, ◌≤◌, max, arith, length, List, [], ◌∷◌, ◌++◌, map, Bool, true, false, cond, ◌||◌, Option, Some, None, refl, sym, ap, ◌∙◌, subst, append-nil}
+use Rattle.std.proofs.Common.{◌≡◌, ℕ, ◌+◌, ◌<◌, ◌≤◌, arith, length, List, [], ◌∷◌, ◌++◌, map, Bool, true, false, cond, ◌||◌, Option, Some, None, refl, sym, ap, ◌∙◌, subst, append-nil}
 use Rattle.isa_terms.specs.Types.{Ty}
 use Rattle.isa_terms.specs.Terms.{Tm, Const, Free, Unknown, Bound, Abs, App, bare}
-use Rattle.isa_terms.specs.Equal.{tm_eq}
 use Rattle.isa_terms.specs.Replace.{put}
-use Rattle.isa_terms.specs.Binding.{occurs, occurs_in, close_at}
+use Rattle.isa_terms.specs.Binding.{occurs_in, close_at}
 use Rattle.isa_terms.specs.Normal.{IsNormal}
 use Rattle.isa_terms.specs.Sets.{has, joined}
 use Rattle.isa_terms.specs.Instances.{Each}
 use Rattle.isa_terms.proofs.Equal.{ty_decides}
 use Rattle.isa_terms.proofs.Bare.{close_bare}
 use Rattle.isa_terms.proofs.Typed.{Typed, TConst, TAbs, TApp, type_of_typed, typed_of_type}
-use Rattle.isa_kernel.specs.Logic.{prop, imp, all, IsProposition}
+use Rattle.isa_kernel.specs.Logic.{prop, imp, all}
 use Rattle.isa_kernel.specs.declared.base.BaseEntry.{BaseEntry}
 use Rattle.isa_kernel.specs.Axioms.{propositions, joined_bases}
-use Rattle.isa_kernel.specs.Derivation.{Derives, Within}
+use Rattle.isa_kernel.specs.Derivation.{Derives}
 use Rattle.isa_kernel.specs.Theorem.{Theorem, IsDerived}
 use Rattle.isa_kernel.specs.declared.inference.InferenceError.{InferenceError}
-use Rattle.isa_kernel.specs.Inferences.{Answers, assumed, implies_eliminated, forall_introduced, instantiated}
+use Rattle.isa_kernel.specs.Inferences.{Answers, implies_eliminated, forall_introduced, instantiated}
 use Rattle.isa_kernel.proofs.Members.{bares}
 use Rattle.isa_kernel.proofs.Fill.{Var, types, fill, fill_typed, close_fill}
+use Rattle.isa_kernel.proofs.Preserved.{binary_typed}
 use Rattle.isa_kernel.proofs.Closed.{fill_none}
 use Rattle.isa_kernel.proofs.Quantifier.{quantifier}
 use Rattle.isa_subgoal.specs.declared.lift.Parameter.{Parameter}
-use Rattle.isa_subgoal.specs.Premises.{implies, premises, conclusion, rule_form, rule_of}
-use Rattle.isa_subgoal.specs.Steps.{introduced, raised}
+use Rattle.isa_subgoal.specs.Premises.{implies, premises, conclusion, rule_form}
+use Rattle.isa_subgoal.specs.Private.Steps.{introduced, raised_by}
 use Rattle.isa_kernel.specs.Derived.{renamed}
-use Rattle.isa_subgoal.specs.Reshaping.{opened, colons}
+use Rattle.isa_subgoal.specs.Private.Reshaping.{opened, colons}
 use Rattle.isa_subgoal.specs.Lift.{quantified, lift, lift_over, lifted_prop, lifted_rule, types_under, Lifts}
-use Rattle.isa_subgoal.specs.Lifting.{longest_name, variables_from, turned, lifted_entries, raised_at, specialized, quantified_over, met_over, lifted_over, lifted_by}
-use Rattle.isa_subgoal.proofs.Deriving.{ArePropositions, tm_eq_same, has_type_of, derived_propositions, implies_typed, implies_proposition}
+use Rattle.isa_subgoal.specs.Private.Lifting.{longest_name, variables_from, turned, lifted_entries, raised_at, specialized, quantified_over, met_over, lifted_over, lifted_by}
+use Rattle.isa_subgoal.proofs.Deriving.{ArePropositions, tm_eq_same, has_type_of, derived_propositions}
 use Rattle.isa_subgoal.proofs.Counts.{parts_made}
 use Rattle.isa_subgoal.proofs.Splitting.{premises_all, same_length}
-use Rattle.isa_subgoal.proofs.Cutting.{more_hyps, fewer_hyps, fewer_none, introduced_is, more_within, raised_is}
+use Rattle.isa_subgoal.proofs.Cutting.{more_hyps, fewer_hyps, fewer_none, introduced_is, more_within, raised_by_is}
 use Rattle.isa_subgoal.proofs.Opening.{frees, opened_is, put_fill}
 use Rattle.isa_subgoal.proofs.Spelling.{body_typed, AllTyped, implies_at}
 use Rattle.isa_subgoal.proofs.Regaining.{IsShort, AllShort, ShortVars, short_more, all_short_more, vars_short_more, misses, new_vars, colons_length, fill_implies, filled_propositions}
@@ -248,10 +248,10 @@ module _ (xs : List Parameter) (hs : List Tm) (n : ℕ) where
       let made : instantiated (record { types = []; terms = lifted_entries xs (frees vs) th.prop [] }) th ≡ Some rule =
       rule_at xs vs same_types same_count th h m ∙ ap (λ p. Some (theorem [] p B)) (ap here (parts_made th.prop) ∙ sub_implies xs vs same_types same_count ps c) in
       let form : rule_form (length ps) rule ≡ Some (map here ps, here c) = ap (λ k. rule_form k rule) (sym (same_length here ps)) ∙ premises_all (map here ps) (here c) in
-      ap (λ o. option_and_then {T = Theorem} {U = Theorem} (λ r. option_and_then {T = List Tm × Tm} {U = Theorem} (λ parts. raised (map (opened (frees vs) 0) hs) parts.0 r) (rule_form (length ps) r)) o) made
-      ∙ ap (λ o. option_and_then {T = List Tm × Tm} {U = Theorem} (λ parts. raised (map (opened (frees vs) 0) hs) parts.0 rule) o) form
-      ∙ ap (λ us. raised us (map here ps) rule) (all_opened hs)
-      ∙ raised_is hs' (map here ps) B (here c) (filled_propositions vs hs (subst (λ G. AllTyped G hs) (sym same_types) w)) (propositions_here ps dp)
+      ap (λ o. option_and_then {T = Theorem} {U = Theorem} (λ r. option_and_then {T = List Tm × Tm} {U = Theorem} (λ parts. raised_by (map (opened (frees vs) 0) hs) parts.0 r) (rule_form (length ps) r)) o) made
+      ∙ ap (λ o. option_and_then {T = List Tm × Tm} {U = Theorem} (λ parts. raised_by (map (opened (frees vs) 0) hs) parts.0 rule) o) form
+      ∙ ap (λ us. raised_by us (map here ps) rule) (all_opened hs)
+      ∙ raised_by_is hs' (map here ps) B (here c) (filled_propositions vs hs (subst (λ G. AllTyped G hs) (sym same_types) w)) (propositions_here ps dp)
       ∙ (λ i. Some (theorem [] (implies (all_here ps dp w i) (here_is dc w i)) B))
 
 -- ---- the whole
@@ -333,3 +333,20 @@ lifts_theorem xs hs outer inner qs w th x e a l =
     empty_list : (ts : List Tm) → length ts ≡ 0 → ts ≡ []
     empty_list [] l = refl
     empty_list (t ∷ ts) l = absurd (omega (arith, l))
+
+-- ---- where the call refuses
+quantified_back : (xs : List Parameter) (G : List Ty) (p : Tm) → Typed G (quantified xs p) prop → Typed (types_under xs G) p prop
+quantified_back [] G p d = d
+quantified_back (x ∷ xs) G p d = quantified_back xs (x.typ ∷ G) p (body_typed d).1
+
+premises_back : (G : List Ty) (hs : List Tm) (c : Tm) → Typed G (implies hs c) prop → Each (λ h. Typed G h prop) hs
+premises_back G [] c d = tt
+premises_back G (h ∷ hs) c d = let both = binary_typed d in (both.0, premises_back G hs c both.1)
+
+-- the assumptions of a lifted rule that is derived are propositions under the parameters
+pub lifted_assumptions : (xs : List Parameter) (hs : List Tm) (th x : Theorem) → IsDerived x → x ≡ lifted_rule xs hs th → Each (λ h. Typed (types_under xs []) h prop) hs
+lifted_assumptions xs hs th x d e =
+    let Qs : List Tm = map (lift_over xs hs) (premises th.prop) in
+    let c : Tm = lift_over xs hs (conclusion th.prop) in
+    let parts = derived_propositions Qs c (subst (λ (y : Theorem). Derives (propositions y.base) (bares y.hyps) (bare y.prop)) e d.derivation) in
+    premises_back (types_under xs []) hs (lift xs 0 (conclusion th.prop)) (quantified_back xs [] (implies hs (lift xs 0 (conclusion th.prop))) (typed_of_type [] c prop parts.1))

@@ -8,7 +8,7 @@ use Rattle.isa_terms.specs.Replace.{raise, put}
 use Rattle.isa_terms.proofs.Typed.{Typed, TConst, TFree, TUnknown, TBound, TAbs, TApp}
 use Rattle.isa_kernel.proofs.Fill.{Var, types, filled, fill, fill_below, fill_above, fill_some, get_past, one_more}
 use Rattle.isa_kernel.proofs.Quantifier.{put_closed}
-use Rattle.isa_subgoal.specs.Reshaping.{opened}
+use Rattle.isa_subgoal.specs.Private.Reshaping.{opened}
 
 abbrev pub frees : List Var → List Tm
 frees [] = []

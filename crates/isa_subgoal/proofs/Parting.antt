@@ -1,15 +1,13 @@
 -- The parts of a subgoal make it again.
-use Rattle.std.specs.Prelude.{codes}
 use Rattle.std.proofs.Common.{◌≡◌, ℕ, List, [], ◌∷◌, Option, Some, None, refl, sym, ap, ◌∙◌, subst}
 use Rattle.isa_terms.specs.Types.{Ty}
 use Rattle.isa_terms.specs.Terms.{Tm, Const, Free, Unknown, Bound, Abs, App, bare}
 use Rattle.isa_terms.specs.Norm.{norm}
-use Rattle.isa_terms.specs.Normal.{IsNormal}
 use Rattle.isa_terms.proofs.Typed.{Typed, typed_of_type}
 use Rattle.isa_terms.proofs.Conv.{Conv, CSym, right_typed}
 use Rattle.isa_terms.proofs.Unique.{conv_norm}
 use Rattle.isa_terms.proofs.NormalForms.{norm_same}
-use Rattle.isa_kernel.specs.Logic.{prop, IsProposition}
+use Rattle.isa_kernel.specs.Logic.{prop}
 use Rattle.isa_kernel.specs.Forms.{quantifier_parts}
 use Rattle.isa_kernel.proofs.Quantifier.{quantifier}
 use Rattle.isa_subgoal.specs.declared.lift.Parameter.{Parameter}

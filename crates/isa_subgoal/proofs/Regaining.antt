@@ -23,9 +23,9 @@ use Rattle.isa_kernel.proofs.Fill.{Var, types, filled, fill, fill_typed, IsNew, 
 use Rattle.isa_kernel.proofs.Quantifier.{quantifier}
 use Rattle.isa_terms.proofs.Typed.{Typed, type_of_typed}
 use Rattle.isa_subgoal.specs.Premises.{implies}
-use Rattle.isa_subgoal.specs.Steps.{eliminated}
+use Rattle.isa_subgoal.specs.Private.Steps.{eliminated}
 use Rattle.isa_subgoal.specs.Shape.{gathered}
-use Rattle.isa_subgoal.specs.Reshaping.{opened, colons, regained}
+use Rattle.isa_subgoal.specs.Private.Reshaping.{opened, colons, regained}
 use Rattle.isa_subgoal.proofs.Deriving.{ArePropositions, tm_eq_same, has_type_of}
 use Rattle.isa_subgoal.proofs.Cutting.{more_hyps, eliminated_is, more_within}
 use Rattle.isa_subgoal.proofs.Opening.{frees, opened_is, put_fill, fill_next}

@@ -1,10 +1,10 @@
 -- No inference refuses where the unknowns of a normal rule get other numbers.
 use Rattle.std.specs.Prelude.{is_some, not, option_and_then, IfOk, Result, Ok, Err}
-use Rattle.std.proofs.Common.{◌≡◌, ℕ, ◌+◌, ◌<◌, arith, length, List, [], ◌∷◌, map, Bool, true, false, cond, ◌||◌, ◌&&◌, nat_eq, Option, Some, None, unwrap_or, refl, sym, ap, ◌∙◌, subst}
+use Rattle.std.proofs.Common.{◌≡◌, ℕ, ◌+◌, ◌<◌, arith, length, List, [], ◌∷◌, Bool, true, false, cond, ◌||◌, ◌&&◌, nat_eq, Option, Some, None, unwrap_or, refl, sym, ap, ◌∙◌, subst}
 use Rattle.std.proofs.lemmas.Bool.Decides.{Decides-eqb}
 use Rattle.std.specs.Cmp.Lexicographic.{bytes_decides}
 use Rattle.isa_terms.specs.Types.{Ty, Tys, TyCon, TyFixed, TyUnknown, NoTys, MoreTys}
-use Rattle.isa_terms.specs.Terms.{Tm, Const, Free, Unknown, Bound, Abs, App, bare}
+use Rattle.isa_terms.specs.Terms.{Tm, Const, Free, Unknown, Bound, Abs, App}
 use Rattle.isa_terms.specs.Equal.{name_eq, ty_eq}
 use Rattle.isa_terms.specs.Norm.{norm, loose}
 use Rattle.isa_terms.specs.Normal.{redex, IsHead, IsNormal}
@@ -17,7 +17,8 @@ use Rattle.isa_terms.proofs.NormalForms.{norm_same}
 use Rattle.isa_kernel.specs.Inferences.{Answers, has_type, typed_as, keeps, instantiated}
 use Rattle.isa_kernel.specs.declared.inference.InferenceError.{InferenceError}
 use Rattle.isa_kernel.specs.Theorem.{Theorem}
-use Rattle.isa_subgoal.specs.Renumbering.{renumbered_type, renumbered_types, renumbered, renumbered_rule, type_numbers, all_type_numbers, numbers_in_types, numbers_in, renumbered_by, Renumbers}
+use Rattle.isa_subgoal.specs.Renumbering.{renumbered_type, renumbered_types, renumbered, renumbered_rule, Renumbers}
+use Rattle.isa_subgoal.specs.Private.Renumbering.{type_numbers, all_type_numbers, numbers_in_types, numbers_in, renumbered_by}
 use Rattle.isa_kernel.specs.Derived.{renamed}
 use Rattle.isa_subgoal.proofs.Entries.{term_set_keeps, term_set_has}
 use Rattle.isa_subgoal.proofs.Stating.{renamed_is, renamed_same}

@@ -1,15 +1,16 @@
 -- What brings a subgoal into its form, and that the subgoal follows from that.
 use Rattle.std.specs.Prelude.{option_and_then, codes}
-use Rattle.std.proofs.Common.{◌≡◌, inl, ℕ, ◌+◌, ◌<◌, arith, append_assoc, append-nil, List, [], ◌∷◌, ◌++◌, map, Bool, true, false, cond, Option, Some, None, refl, sym, ap, ◌∙◌, subst}
+use Rattle.std.proofs.Common.{◌≡◌, inl, ℕ, ◌+◌, ◌<◌, arith, List, [], ◌∷◌, ◌++◌, map, Bool, true, false, cond, ◌||◌, Option, Some, None, refl, sym, ap, ◌∙◌, subst}
 use Rattle.isa_terms.specs.Types.{Ty}
 use Rattle.isa_terms.specs.Terms.{Tm, Const, Free, Unknown, Bound, Abs, App, bare}
 use Rattle.isa_terms.specs.Typing.{HasType, type_at, function_of}
 use Rattle.isa_terms.specs.Norm.{norm}
 use Rattle.isa_terms.specs.Normal.{IsNormal}
-use Rattle.isa_terms.specs.Equal.{tm_eq}
+use Rattle.isa_terms.specs.Facts.{is_normal}
+use Rattle.isa_terms.proofs.KnownNormal.{normal_kept}
 use Rattle.isa_terms.specs.Instance.{Instance}
 use Rattle.isa_terms.specs.Sets.{without}
-use Rattle.isa_terms.proofs.Bare.{tm_decides, type_at_bare}
+use Rattle.isa_terms.proofs.Bare.{type_at_bare}
 use Rattle.isa_kernel.specs.Logic.{prop, imp, IsProposition}
 use Rattle.isa_kernel.specs.Forms.{imp_parts, quantifier_parts}
 use Rattle.isa_kernel.specs.declared.base.BaseEntry.{BaseEntry}
@@ -26,13 +27,11 @@ use Rattle.isa_terms.proofs.Conv.{Conv, CSym, CTrans, right_typed, norm_conv}
 use Rattle.isa_terms.proofs.FreeNames.{same_conv}
 use Rattle.isa_terms.proofs.Unique.{conv_norm}
 use Rattle.isa_terms.proofs.NormalForms.{norm_same, norm_normal}
-use Rattle.isa_terms.specs.Instances.{Each}
-use Rattle.isa_subgoal.specs.Premises.{implies}
-use Rattle.isa_subgoal.specs.Steps.{eliminated, cut}
+use Rattle.isa_subgoal.specs.Private.Steps.{eliminated}
 use Rattle.isa_subgoal.specs.Shape.{is_in_form, spelled, moved, shaped}
-use Rattle.isa_subgoal.specs.Reshaping.{opened, colons, name_lengths, regained, regaining, reshaped_by}
+use Rattle.isa_subgoal.specs.Private.Reshaping.{opened, colons, name_lengths, regained, regaining, met_form}
 use Rattle.isa_subgoal.proofs.Deriving.{ArePropositions, has_type_of}
-use Rattle.isa_subgoal.proofs.Cutting.{fewer_none, cut_is, eliminated_sound}
+use Rattle.isa_subgoal.proofs.Cutting.{fewer_none, eliminated_is, eliminated_sound}
 use Rattle.isa_subgoal.proofs.Consequences.{From, itself}
 use Rattle.isa_subgoal.proofs.Instancing.{empty_tm}
 use Rattle.isa_subgoal.proofs.Spelling.{spelled_conv, gathered_typed}
@@ -155,37 +154,31 @@ shaped_from t h n = go (is_in_form t)
         subst (λ q. Derives [] [] (App (App (Const (codes "Pure.imp") (function_of prop (function_of prop prop))) (bare (norm (moved t)))) q)) r.same (regaining_sound t _ r.found).derivation
 
 -- ---- all subgoals
-abbrev whole : List Tm → List Tm → List BaseEntry → Tm → Theorem
-whole us ts B g = record { hyps = []; prop = implies (us ++ ts) g; base = B }
+abbrev theorem : List Tm → Tm → List BaseEntry → Theorem
+theorem H p B = record { hyps = H; prop = p; base = B }
 
-pub reshaped_by_is : (us ts : List Tm) (B : List BaseEntry) (g : Tm) → ArePropositions us → ArePropositions ts → Each IsNormal ts → reshaped_by us ts (whole us ts B g) ≡ Some (whole us (map shaped ts) B g)
-unfolding reshaped_by
-reshaped_by_is us [] B g w v n = refl
-reshaped_by_is us (t ∷ ts) B g w v n =
-    go (is_in_form t) (λ s h. reshaped_by_is (us ++ s ∷ []) ts B g (propositions_snoc us s w h) v.1 n.1)
+-- s, but for the names of binders, under the hypothesis f
+pub record IsMet (s f : Tm) (o : Option Theorem) : Type 0 where
+  pub prop : Tm
+  pub found : o ≡ Some (theorem (f ∷ []) prop [])
+  pub same : bare prop ≡ bare s
+
+pub met_form_is : (s : Tm) → IsProposition s → (is_in_form s || is_normal s) ≡ true → IsMet s (shaped s) (met_form s)
+unfolding met_form
+met_form_is s h n = go (is_in_form s) n
   where
-    propositions_snoc : (us : List Tm) (s : Tm) → ArePropositions us → IsProposition s → ArePropositions (us ++ s ∷ [])
-    propositions_snoc [] s w h = (h, tt)
-    propositions_snoc (u ∷ us) s w h = (w.0, propositions_snoc us s w.1 h)
+    go : (b : Bool) → (b || is_normal s) ≡ true → IsMet s (cond b s (norm (moved s))) (cond b (assumed s) (option_and_then {T = Theorem} {U = Theorem} (λ rule. eliminated (cond b s (norm (moved s)) ∷ []) rule) (regaining s)))
+    go true k = record { prop = s; found = ap (λ c. cond c (Some (theorem (s ∷ []) s [])) None) (has_type_of s h); same = refl }
+    go false k =
+        let w : Tm = norm (moved s) in
+        let hw : IsProposition w = type_of_typed (right_typed (norm_conv (moved_typed s (typed_of_type [] s prop h)))) in
+        let r : IsRegaining s (regaining s) = regaining_is s h (normal_kept s k) in
+        record {
+          prop = r.prop;
+          found = ap (λ o. option_and_then {T = Theorem} {U = Theorem} (λ rule. eliminated (w ∷ []) rule) o) r.found ∙ eliminated_is (w ∷ []) [] [] r.prop (hw, tt);
+          same = r.same;
+        }
 
-    behind : (s : Tm) (rs : List Tm) → (us ++ s ∷ []) ++ rs ≡ us ++ (s ∷ rs)
-    behind s rs = append_assoc us (s ∷ []) rs
-
-    next : (s : Tm) → reshaped_by (us ++ s ∷ []) ts (whole (us ++ s ∷ []) ts B g) ≡ Some (whole (us ++ s ∷ []) (map shaped ts) B g) → reshaped_by (us ++ s ∷ []) ts (whole us (s ∷ ts) B g) ≡ Some (whole us (s ∷ map shaped ts) B g)
-    next s e = ap (λ xs. reshaped_by (us ++ s ∷ []) ts (record { hyps = []; prop = implies xs g; base = B })) (sym (behind s ts)) ∙ e ∙ ap (λ xs. Some (record { hyps = []; prop = implies xs g; base = B })) (behind s (map shaped ts))
-
-    go : (b : Bool) → ((s : Tm) → IsProposition s → reshaped_by (us ++ s ∷ []) ts (whole (us ++ s ∷ []) ts B g) ≡ Some (whole (us ++ s ∷ []) (map shaped ts) B g)) →
-        cond b (reshaped_by (us ++ t ∷ []) ts (whole us (t ∷ ts) B g))
-        (option_and_then {T = Theorem} {U = Theorem} (λ rule. option_and_then {T = Theorem} {U = Theorem} (λ x. reshaped_by (us ++ cond b t (norm (moved t)) ∷ []) ts x) (cut us (cond b t (norm (moved t)) ∷ []) (whole us (t ∷ ts) B g) rule)) (regaining t))
-        ≡ Some (whole us (cond b t (norm (moved t)) ∷ map shaped ts) B g)
-    go true ih = next t (ih t v.0)
-    go false ih =
-        let s : Tm = norm (moved t) in
-        let hs : IsProposition s = type_of_typed (right_typed (norm_conv (moved_typed t (typed_of_type [] t prop v.0)))) in
-        let r : IsRegaining t (regaining t) = regaining_is t v.0 n.0 in
-        let e : tm_eq t r.prop ≡ true = (tm_decides t r.prop).1 (sym r.same) in
-        let late = λ (x : Theorem). reshaped_by (us ++ s ∷ []) ts x in
-        ap (λ o. option_and_then {T = Theorem} {U = Theorem} (λ rule. option_and_then {T = Theorem} {U = Theorem} late (cut us (s ∷ []) (whole us (t ∷ ts) B g) rule)) o) r.found
-        ∙ ap (λ o. option_and_then {T = Theorem} {U = Theorem} late o) (cut_is us (s ∷ []) ts B [] t r.prop g w (hs, tt) e)
-        ∙ ap (λ C. late (record { hyps = []; prop = implies (us ++ (s ∷ ts)) g; base = C })) (append-nil B)
-        ∙ next s (ih s hs)
+pub shaped_propositions : (ss : List Tm) → ArePropositions ss → ArePropositions (map shaped ss)
+shaped_propositions [] w = tt
+shaped_propositions (s ∷ ss) w = (shaped_proposition s w.0, shaped_propositions ss w.1)

@@ -1,5 +1,5 @@
 -- A theorem whose binders get other names keeps its hypotheses and its base.
-use Rattle.std.proofs.Common.{◌≡◌, List, [], ◌∷◌, cond, Some, None, refl, sym, ap, ◌∙◌}
+use Rattle.std.proofs.Common.{◌≡◌, List, [], ◌∷◌, cond, Some, None, refl, sym, ap}
 use Rattle.isa_terms.specs.Terms.{Tm, bare}
 use Rattle.isa_terms.specs.Equal.{tm_eq}
 use Rattle.isa_terms.proofs.Bare.{tm_decides}

@@ -1,6 +1,6 @@
 -- Rules for elimination made of rules for destruction.
 -- Source: `make_elim` and destruct-resolution in Isabelle (The Isabelle/Isar Reference Manual, "Rules and tactics"; Paulson, "The foundation of a generic theorem prover", 1989).
-use Rattle.std.specs.Prelude.{ℕ, List, [], ◌∷◌, ◌++◌, codes}
+use Rattle.std.specs.Prelude.{ℕ, [], ◌∷◌, ◌++◌, codes}
 use Rattle.isa_terms.specs.Terms.{Tm, Unknown}
 use Rattle.isa_kernel.specs.Logic.{prop, imp}
 use Rattle.isa_kernel.specs.Theorem.{Theorem}

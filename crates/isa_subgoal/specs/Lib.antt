@@ -1,10 +1,8 @@
 pub mod Premises
-pub mod Steps
 pub mod Shape
-pub mod Reshaping
 pub mod Rules
 pub mod Lift
 pub mod Parts
 pub mod Elimination
 pub mod Renumbering
-pub mod Lifting
+pub mod Private

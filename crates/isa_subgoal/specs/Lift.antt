@@ -58,6 +58,12 @@ abbrev pub types_under : List Parameter → List Ty → List Ty
 types_under [] G = G
 types_under (x ∷ xs) G = types_under xs (x.typ ∷ G)
 
+-- a normal rule without hypotheses, and assumptions that are propositions under the parameters
+pub record IsLiftable (xs : List Parameter) (hs : List Tm) (th : Theorem) : Type 0 where
+  pub hyps : th.hyps ≡ []
+  pub normal : IsNormal th.prop
+  pub assumptions : Each (λ h. Typed (types_under xs []) h prop) hs
+
 -- no refusal comes for a normal rule without hypotheses and assumptions that are propositions under the parameters
 abbrev pub Lifts : List Parameter → List Tm → Theorem → Result Theorem InferenceError → Type 0
 Lifts xs hs th answer = th.hyps ≡ [] → IsNormal th.prop → Each (λ h. Typed (types_under xs []) h prop) hs → Answers answer (Some (lifted_rule xs hs th))

@@ -2,7 +2,7 @@
 ghost use Rattle.std.specs.Prelude.{◌≡◌, [], IfOk};
 ghost use Rattle.isa_kernel.specs.Inferences.{Answers};
 ghost use Rattle.isa_subgoal.specs.Elimination.{conclusion_unknown, elimination_of};
-ghost use Rattle.isa_subgoal.specs.Steps.{eliminated_into};
+ghost use Rattle.isa_subgoal.specs.Private.Steps.{eliminated_into};
 
 use crate::premises::split_all_premises;
 use crate::steps::{eliminate, introduce};
@@ -20,7 +20,7 @@ fn conclusion_unknown(alloc: Global, number: u32) -> Result<Term, AllocError>
 }
 
 /// From what is behind the premises, the goal that follows from it, under all these premises and that one.
-#[tactic(auto, unfolding(crate::specs::Steps::eliminated_into))]
+#[tactic(auto, unfolding(crate::specs::Private::Steps::eliminated_into))]
 fn eliminate_into(
     alloc: Global,
     premises: &[Term],

@@ -13,6 +13,7 @@ mod shape;
 mod steps;
 
 pub use elimination::make_elimination;
+pub use isa_kernel::make_implies;
 pub use laws::{lifting_without_parameters, parts_make_the_subgoal, subgoals_are_formed};
 pub use lift::{Parameter, lifted};
 pub use lifting::lift_rule;
@@ -20,4 +21,4 @@ pub use parts::{SubgoalParts, split_subgoal};
 pub use premises::{Premises, conclusion, is_all, split_all_premises, split_leading, split_rule};
 pub use renumbering::renumber_rule;
 pub use reshaping::reshape;
-pub use steps::{cut, make_implies, raise_rule, rotate, spliced};
+pub use steps::{cut, raise_rule, rotate, spliced};

@@ -5,8 +5,7 @@ ghost use Rattle.isa_terms.specs.Terms as tm;
 ghost use Rattle.isa_subgoal.specs.Lift.{quantified, over_types, applied, lift, lift_over, lifted_prop};
 
 use crate::premises::split_all_premises;
-use crate::steps::make_implies;
-use isa_kernel::{Thm, make_all};
+use isa_kernel::{Thm, make_all, make_implies};
 use isa_terms::{Name, Term, TermNode, Terms, Typ, function_type};
 use std::alloc::{AllocError, Global};
 

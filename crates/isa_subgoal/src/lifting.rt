@@ -2,16 +2,17 @@
 ghost use Rattle.std.specs.Prelude.{◌≡◌, ◌++◌, [], map, length, IfOk};
 ghost use Rattle.isa_subgoal.specs.Premises.{premises};
 ghost use Rattle.isa_kernel.specs.Inferences.{Answers};
-ghost use Rattle.isa_subgoal.specs.Reshaping.{opened};
-ghost use Rattle.isa_subgoal.specs.Lift.{lifted_rule, Lifts};
-ghost use Rattle.isa_subgoal.specs.Lifting.{longest_name, variables_from, turned, lifted_entries, raised_at, specialized, quantified_over, met_over, lifted_over, lifted_by};
+ghost use Rattle.isa_subgoal.specs.Private.Reshaping.{opened};
+ghost use Rattle.isa_subgoal.specs.Lift.{lifted_rule, Lifts, IsLiftable};
+ghost use Rattle.isa_subgoal.specs.Private.Lifting.{longest_name, variables_from, turned, lifted_entries, raised_at, specialized, quantified_over, met_over, lifted_over, lifted_by};
 
 use crate::lift::{Parameter, lift_all_over, lift_over, lift_unknown};
 use crate::premises::{split_all_premises, split_rule};
 use crate::reshaping::{opened, put_first, variable};
-use crate::steps::{introduce, make_implies, raise_by_inferences};
+use crate::steps::{introduce, raise_by_inferences};
 use isa_kernel::{
-    InferenceError, Thm, assume, forall_elim, forall_intr, implies_elim, instantiate_thm, rename,
+    InferenceError, Thm, assume, forall_elim, forall_intr, implies_elim, instantiate_thm,
+    make_implies, rename,
 };
 use isa_terms::{Inst, Term, TermNode, Terms, copied};
 use std::alloc::{AllocError, Global};
@@ -105,7 +106,7 @@ fn put_lifted(
 }
 
 /// The rule of that many premises with its unknowns at the variables, the innermost first, under the assumptions at these.
-#[tactic(auto, unfolding(crate::specs::Lifting::raised_at))]
+#[tactic(auto, unfolding(crate::specs::Private::Lifting::raised_at))]
 fn raise_at(
     alloc: Global,
     parameters: &[Parameter],
@@ -127,7 +128,7 @@ fn raise_at(
 }
 
 /// From `!!x1 .. xk. P`, P at the terms in their order.
-#[tactic(auto, unfolding(crate::specs::Lifting::specialized))]
+#[tactic(auto, unfolding(crate::specs::Private::Lifting::specialized))]
 fn specialize(alloc: Global, terms: &[Term], th: Thm) -> Result<Thm, InferenceError>
     ensures { Answers result (specialized terms.now th) }
 {
@@ -141,7 +142,7 @@ fn specialize(alloc: Global, terms: &[Term], th: Thm) -> Result<Thm, InferenceEr
 }
 
 /// `!!x1 .. xk. P` for the variables in their order.
-#[tactic(auto, unfolding(crate::specs::Lifting::quantified_over))]
+#[tactic(auto, unfolding(crate::specs::Private::Lifting::quantified_over))]
 fn quantify(alloc: Global, variables: &[Term], th: Thm) -> Result<Thm, InferenceError>
     ensures { Answers result (quantified_over variables.now th) }
 {
@@ -155,7 +156,7 @@ fn quantify(alloc: Global, variables: &[Term], th: Thm) -> Result<Thm, Inference
 }
 
 /// What is behind the premises, each of which is met by one of the propositions at the variables.
-#[tactic(auto, unfolding(crate::specs::Lifting::met_over))]
+#[tactic(auto, unfolding(crate::specs::Private::Lifting::met_over))]
 fn meet_over(
     alloc: Global,
     variables: &[Term],
@@ -176,7 +177,7 @@ fn meet_over(
 }
 
 /// A rule with the premises of those propositions at the variables, these and the conclusion under `!!`s.
-#[tactic(auto, unfolding(crate::specs::Lifting::lifted_over))]
+#[tactic(auto, unfolding(crate::specs::Private::Lifting::lifted_over))]
 fn quantify_rule(
     alloc: Global,
     variables: &[Term],
@@ -191,7 +192,7 @@ fn quantify_rule(
 }
 
 /// The rule lifted, from its propositions for the premises and the whole, and variables in both orders.
-#[tactic(auto, unfolding(crate::specs::Lifting::lifted_by))]
+#[tactic(auto, unfolding(crate::specs::Private::Lifting::lifted_by))]
 fn lift_by_inferences(
     alloc: Global,
     parameters: &[Parameter],
@@ -210,10 +211,8 @@ fn lift_by_inferences(
     rename(alloc, whole, &lifted)
 }
 
-/// A rule lifted over the parameters and the assumptions of a subgoal, which stand under the parameters: its unknowns are
-/// applied to the parameters, and each premise and the conclusion stand under parameters and assumptions. `Shape` comes at most
-/// for a rule with hypotheses or not in normal form, and for an assumption that is no proposition.
-pub fn lift_rule(
+/// The lifted rule, or a refusal.
+fn lift_checked(
     alloc: Global,
     parameters: &[Parameter],
     assumptions: &[Term],
@@ -244,5 +243,31 @@ pub fn lift_rule(
     if lifted.hyps().len() > 0 {
         return Err(InferenceError::Shape);
     }
+    Ok(lifted)
+}
+
+/// A rule lifted over the parameters and the assumptions of a subgoal, which stand under the parameters: its unknowns are
+/// applied to the parameters, and each premise and the conclusion stand under parameters and assumptions.
+///
+/// `Shape` comes exactly for a rule with hypotheses, for one not in normal form, and for an assumption that is no proposition
+/// under the parameters.
+pub fn lift_rule(
+    alloc: Global,
+    parameters: &[Parameter],
+    assumptions: &[Term],
+    rule: &Thm,
+) -> Result<Thm, InferenceError>
+    ensures theorem { IfOk result (λ th. th ≡ lifted_rule parameters.now assumptions.now rule.now) }
+    ensures given { Lifts parameters.now assumptions.now rule.now result }
+    ensures refused { IfOk result (λ th. IsLiftable parameters.now assumptions.now rule.now) }
+{
+    if rule.hyps().len() > 0 {
+        return Err(InferenceError::Shape);
+    }
+    if !rule.prop().is_normal() {
+        return Err(InferenceError::Shape);
+    }
+    let lifted = lift_checked(alloc, parameters, assumptions, rule)?;
+    lifted.is_derived();
     Ok(lifted)
 }

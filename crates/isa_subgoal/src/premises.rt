@@ -1,9 +1,12 @@
+//! Propositions and theorems as premises and a conclusion.
 ghost use Rattle.std.specs.Prelude.{◌≡◌, ◌++◌, IfOk, List, option_map};
 ghost use Rattle.isa_terms.specs.Terms.{Tm};
+ghost use Rattle.std.specs.Option.{option_copied};
+ghost use Rattle.isa_kernel.specs.Derived.{conclusion_behind};
 ghost use Rattle.isa_subgoal.specs.Premises.{leading, premises, conclusion, is_all, premises_of, rule_form};
 
 use isa_kernel::{Thm, split_imp};
-use isa_terms::{Term, TermNode, Terms};
+use isa_terms::{Term, TermNode, Terms, same_term};
 use std::alloc::{AllocError, Global};
 
 /// The premises of a rule, and its conclusion.
@@ -43,6 +46,23 @@ pub fn conclusion(t: &Term) -> &Term
     match split_imp(t) {
         None => t,
         Some((_, rest)) => conclusion(rest),
+    }
+}
+
+/// What stands behind the premises named, where the proposition has these first.
+pub(crate) fn conclusion_behind<'t>(premises: &[Term], t: &'t Term) -> Option<&'t Term>
+    ensures { option_copied result ≡ conclusion_behind premises.now t.now }
+{
+    match premises.split_first() {
+        None => Some(t),
+        Some((first, rest)) => {
+            let (left, right) = split_imp(t)?;
+            if same_term(left, first) {
+                conclusion_behind(rest, right)
+            } else {
+                None
+            }
+        }
     }
 }
 

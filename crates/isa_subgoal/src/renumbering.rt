@@ -2,7 +2,8 @@
 ghost use Rattle.std.specs.Prelude.{◌≡◌, ◌+◌, ◌++◌, IfOk};
 ghost use Rattle.isa_terms.specs.Types.{tys_of, list_of};
 ghost use Rattle.isa_kernel.specs.Inferences.{Answers};
-ghost use Rattle.isa_subgoal.specs.Renumbering.{renumbered_type, renumbered_types, renumbered, renumbered_rule, type_numbers, all_type_numbers, numbers_in_types, numbers_in, renumbered_by, Renumbers};
+ghost use Rattle.isa_subgoal.specs.Renumbering.{renumbered_type, renumbered_types, renumbered, renumbered_rule, IsBareRule, Renumbers};
+ghost use Rattle.isa_subgoal.specs.Private.Renumbering.{type_numbers, all_type_numbers, numbers_in_types, numbers_in, renumbered_by};
 
 use isa_kernel::{InferenceError, Thm, instantiate_thm, rename};
 use isa_terms::{Inst, Term, TermNode, Typ, TypNode, Typs};
@@ -135,7 +136,7 @@ fn put_unknowns(alloc: Global, by: u32, t: &Term, inst: Inst) -> Result<Inst, Al
 }
 
 /// The instance of the rule that raises the numbers, stated as the proposition with these numbers.
-#[tactic(auto, unfolding(crate::specs::Renumbering::renumbered_by))]
+#[tactic(auto, unfolding(crate::specs::Private::Renumbering::renumbered_by))]
 fn renumber_by_inferences(alloc: Global, by: u32, rule: &Thm) -> Result<Thm, InferenceError>
     ensures { Answers result (renumbered_by by rule.now) }
 {
@@ -145,9 +146,8 @@ fn renumber_by_inferences(alloc: Global, by: u32, rule: &Thm) -> Result<Thm, Inf
     rename(alloc, &wanted, &instance)
 }
 
-/// A rule with the numbers of its unknowns and type unknowns raised by that much. `Shape` comes at most for a rule with
-/// hypotheses or not in normal form.
-pub fn renumber_rule(alloc: Global, by: u32, rule: &Thm) -> Result<Thm, InferenceError>
+/// The rule with other numbers, or a refusal.
+fn renumber_checked(alloc: Global, by: u32, rule: &Thm) -> Result<Thm, InferenceError>
     ensures theorem { IfOk result (λ th. th ≡ renumbered_rule by rule.now) }
     ensures given { Renumbers by rule.now result }
 {
@@ -155,4 +155,20 @@ pub fn renumber_rule(alloc: Global, by: u32, rule: &Thm) -> Result<Thm, Inferenc
         return Err(InferenceError::Shape);
     }
     renumber_by_inferences(alloc, by, rule)
+}
+
+/// A rule with the numbers of its unknowns and type unknowns raised by that much. `Shape` comes exactly for a rule with
+/// hypotheses, and for one not in normal form.
+pub fn renumber_rule(alloc: Global, by: u32, rule: &Thm) -> Result<Thm, InferenceError>
+    ensures theorem { IfOk result (λ th. th ≡ renumbered_rule by rule.now) }
+    ensures given { Renumbers by rule.now result }
+    ensures refused { IfOk result (λ th. IsBareRule rule.now) }
+{
+    if !rule.prop().is_normal() {
+        return Err(InferenceError::Shape);
+    }
+    if rule.hyps().len() > 0 {
+        return Err(InferenceError::Shape);
+    }
+    renumber_checked(alloc, by, rule)
 }

@@ -1,15 +1,18 @@
 //! The inferences that bring a subgoal into its form.
-ghost use Rattle.std.specs.Prelude.{◌≡◌, [], ◌∷◌, IfOk};
+ghost use Rattle.std.specs.Prelude.{◌≡◌, [], ◌∷◌, ◌++◌, map, length, Some, true, IfOk};
 ghost use Rattle.isa_terms.specs.Terms.{Free};
+ghost use Rattle.isa_kernel.specs.Derived.{conclusion_behind};
 ghost use Rattle.isa_kernel.specs.Inferences.{Answers};
-ghost use Rattle.isa_subgoal.specs.Reshaping.{opened, name_lengths, colons, regained, regaining, reshaped_by};
-ghost use Rattle.isa_subgoal.specs.Rules.{Reshapes};
+ghost use Rattle.isa_subgoal.specs.Shape.{shaped};
+ghost use Rattle.isa_subgoal.specs.Private.Reshaping.{opened, name_lengths, colons, regained, regaining, met_form, met_forms, reshaped_by, are_in_form};
+ghost use Rattle.isa_subgoal.specs.Rules.{can_be_shaped, reshaped, Reshapes};
 
+use crate::premises::conclusion_behind;
 use crate::shape::{gathered, is_in_form, shaped, spelled};
-use crate::steps::{cut_by_inferences, eliminate, spliced};
+use crate::steps::{eliminate, introduce, spliced};
 use isa_kernel::{
-    InferenceError, Thm, assume, forall_elim, forall_intr, implies_intr, instantiate_thm,
-    split_imp, split_quantifier,
+    InferenceError, Thm, assume, forall_elim, forall_intr, implies_elim, implies_intr,
+    instantiate_thm, make_implies, rename, split_imp, split_quantifier,
 };
 use isa_terms::{Inst, Name, Term, TermNode, Terms, Typ, copied};
 use std::alloc::{AllocError, Global};
@@ -95,7 +98,7 @@ pub(crate) fn put_first(alloc: Global, first: &Term, others: &[Term]) -> Result<
 
 /// The proposition with the variables for its binders, from its parts, which the theorem says behind all `!!`s and
 /// behind the assumptions; names of that length on are new.
-#[tactic(auto, unfolding(crate::specs::Reshaping::regained))]
+#[tactic(auto, unfolding(crate::specs::Private::Reshaping::regained))]
 fn regain(
     alloc: Global,
     length: usize,
@@ -135,7 +138,7 @@ fn regain(
 }
 
 /// That the subgoal follows from what is in the form.
-#[tactic(auto, unfolding(crate::specs::Reshaping::regaining))]
+#[tactic(auto, unfolding(crate::specs::Private::Reshaping::regaining))]
 fn regaining(alloc: Global, t: &Term) -> Result<Thm, InferenceError>
     ensures { Answers result (regaining t.now) }
 {
@@ -151,37 +154,134 @@ fn regaining(alloc: Global, t: &Term) -> Result<Thm, InferenceError>
     instantiate_thm(alloc, &Inst::new(alloc), &rule)
 }
 
-/// The theorem with each of the subgoals behind the first ones in the form.
-#[tactic(auto, unfolding(crate::specs::Reshaping::reshaped_by))]
-fn reshape_behind(
-    alloc: Global,
-    mut before: Terms,
-    subgoals: &[Term],
-    th: Thm,
-) -> Result<Thm, InferenceError>
-    ensures { Answers result (reshaped_by before subgoals.now th) }
+/// The subgoal under the one hypothesis that is what it is brought into.
+#[tactic(auto, unfolding(crate::specs::Private::Reshaping::met_form))]
+fn meet_form(alloc: Global, subgoal: &Term) -> Result<Thm, InferenceError>
+    ensures { Answers result (met_form subgoal.now) }
 {
-    let Some((first, rest)) = subgoals.split_first() else {
-        return Ok(th);
-    };
-    if is_in_form(first) {
-        before.push(first.copy()?)?;
-        return reshape_behind(alloc, before, rest, th);
+    if is_in_form(subgoal) {
+        return assume(alloc, subgoal);
     }
-    let rule = regaining(alloc, first)?;
+    let rule = regaining(alloc, subgoal)?;
     let mut form = Terms::new(alloc);
-    form.push(shaped(alloc, first)?)?;
-    let next = cut_by_inferences(alloc, before.as_slice(), form.as_slice(), &th, &rule)?;
-    before.push(form.get(0).copy()?)?;
-    reshape_behind(alloc, before, rest, next)
+    form.push(shaped(alloc, subgoal)?)?;
+    eliminate(alloc, form.as_slice(), rule)
+}
+
+/// What is behind the premises, each of which is met by what it is brought into.
+#[tactic(auto, unfolding(crate::specs::Private::Reshaping::met_forms))]
+fn meet_forms(alloc: Global, subgoals: &[Term], th: Thm) -> Result<Thm, InferenceError>
+    ensures { Answers result (met_forms subgoals.now th) }
+{
+    match subgoals.split_first() {
+        None => Ok(th),
+        Some((first, rest)) => {
+            let met = meet_form(alloc, first)?;
+            let next = implies_elim(alloc, &th, &met)?;
+            meet_forms(alloc, rest, next)
+        }
+    }
+}
+
+/// The subgoals brought into the form, behind those that are done.
+fn all_shaped(alloc: Global, subgoals: &[Term], mut done: Terms) -> Result<Terms, AllocError>
+    ensures { IfOk result (λ r. r ≡ done ++ map shaped subgoals.now) }
+{
+    match subgoals.split_first() {
+        None => Ok(done),
+        Some((first, rest)) => {
+            done.push(shaped(alloc, first)?)?;
+            all_shaped(alloc, rest, done)
+        }
+    }
+}
+
+/// The theorem with each of its premises in the form.
+#[tactic(auto, unfolding(crate::specs::Private::Reshaping::reshaped_by))]
+fn reshape_by_inferences(alloc: Global, subgoals: &[Term], th: &Thm) -> Result<Thm, InferenceError>
+    ensures { Answers result (reshaped_by subgoals.now th.now) }
+{
+    let core = meet_forms(alloc, subgoals, th.copy(alloc)?)?;
+    let forms = all_shaped(alloc, subgoals, Terms::new(alloc))?;
+    introduce(alloc, forms.as_slice(), core)
+}
+
+/// Whether each has the form or is normal, so that it can be brought into it.
+fn can_be_shaped(subgoals: &[Term]) -> bool
+    ensures { result ≡ can_be_shaped subgoals.now }
+{
+    match subgoals.split_first() {
+        None => true,
+        Some((first, rest)) => (is_in_form(first) || first.is_normal()) && can_be_shaped(rest),
+    }
+}
+
+/// Whether each has the form.
+fn are_in_form(subgoals: &[Term]) -> bool
+    ensures { result ≡ are_in_form subgoals.now }
+{
+    match subgoals.split_first() {
+        None => true,
+        Some((first, rest)) => is_in_form(first) && are_in_form(rest),
+    }
+}
+
+/// The theorem with the call's names, where it has these premises and no hypotheses, and each premise has the form.
+fn rename_premises(
+    alloc: Global,
+    subgoals: &[Term],
+    conclusion: &Term,
+    th: &Thm,
+) -> Result<Thm, InferenceError>
+    requires there { conclusion_behind subgoals.now th.now.prop ≡ Some conclusion.now }
+    requires shapable { can_be_shaped subgoals.now ≡ true }
+    requires formed { are_in_form subgoals.now ≡ true }
+    requires bare { length th.now.hyps ≡ 0 }
+    ensures { Answers result (reshaped subgoals.now th.now) }
+{
+    let prop = make_implies(alloc, subgoals, conclusion)?;
+    rename(alloc, &prop, th)
+}
+
+/// The theorem with each of its premises in the form, where it has these premises.
+fn reshape_premises(
+    alloc: Global,
+    subgoals: &[Term],
+    conclusion: &Term,
+    th: &Thm,
+) -> Result<Thm, InferenceError>
+    requires there { conclusion_behind subgoals.now th.now.prop ≡ Some conclusion.now }
+    requires shapable { can_be_shaped subgoals.now ≡ true }
+    ensures { Answers result (reshaped subgoals.now th.now) }
+{
+    th.is_derived();
+    if th.hyps().len() == 0 && are_in_form(subgoals) {
+        return rename_premises(alloc, subgoals, conclusion, th);
+    }
+    reshape_by_inferences(alloc, subgoals, th)
 }
 
 /// The theorem with each of its premises, which are those, in the form.
+fn reshape_checked(alloc: Global, subgoals: &[Term], th: &Thm) -> Result<Thm, InferenceError>
+    ensures { Answers result (reshaped subgoals.now th.now) }
+{
+    if !can_be_shaped(subgoals) {
+        return Err(InferenceError::Shape);
+    }
+    let Some(conclusion) = conclusion_behind(subgoals, th.prop()) else {
+        return Err(InferenceError::Shape);
+    };
+    reshape_premises(alloc, subgoals, conclusion, th)
+}
+
+/// The theorem with each of its premises, which are those, in the form of a subgoal.
+///
+/// Of `s1 ==> .. ==> sn ==> c` it is `t1 ==> .. ==> tn ==> c`, each t being what the s is brought into, without the hypotheses
+/// that equal one of these. `Shape` comes exactly where the theorem has not those premises, and where one neither has the form
+/// nor is normal.
 pub fn reshape(alloc: Global, subgoals: &[Term], th: &Thm) -> Result<Thm, InferenceError>
-    ensures defined { Answers result (reshaped_by [] subgoals.now th.now) }
+    ensures defined { Answers result (reshaped subgoals.now th.now) }
     ensures theorem { Reshapes subgoals.now th.now result }
 {
-    th.is_derived();
-    let copy = th.copy(alloc)?;
-    reshape_behind(alloc, Terms::new(alloc), subgoals, copy)
+    reshape_checked(alloc, subgoals, th)
 }

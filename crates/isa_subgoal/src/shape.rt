@@ -5,8 +5,7 @@ ghost use Rattle.isa_terms.specs.Replace.{raise};
 ghost use Rattle.isa_subgoal.specs.Shape.{is_quantified, is_in_form, over_name, over_names, spelled, gathered, moved, shaped};
 
 use crate::premises::conclusion;
-use crate::steps::make_implies;
-use isa_kernel::{make_all, split_imp, split_quantifier};
+use isa_kernel::{make_all, make_implies, split_imp, split_quantifier};
 use isa_terms::{Name, Term, TermNode, Terms, Typ, copied, norm, raised};
 use std::alloc::{AllocError, Global};
 

@@ -1,10 +1,11 @@
+//! The inferences on theorems with premises.
 ghost use Rattle.std.specs.Prelude.{◌≡◌, ◌++◌, map, IfOk};
 ghost use Rattle.isa_kernel.specs.Inferences.{Answers};
 ghost use Rattle.isa_subgoal.specs.Premises.{implies};
-ghost use Rattle.isa_subgoal.specs.Steps.{eliminated, introduced, cut, rotated, met_under, raised};
-ghost use Rattle.isa_subgoal.specs.Rules.{Cuts, Rotates, Raises};
+ghost use Rattle.isa_subgoal.specs.Private.Steps.{eliminated, introduced, cut_by, rotated_by, met_under, raised_by};
+ghost use Rattle.isa_subgoal.specs.Rules.{cut, rotated, raised, Cuts, Rotates, Raises};
 
-use isa_kernel::{InferenceError, Thm, assume, discharge, implies_elim, make_imp, undischarge};
+use isa_kernel::{InferenceError, Thm, assume, discharge, implies_elim, make_implies, undischarge};
 use isa_terms::{Term, Terms, copied};
 use std::alloc::{AllocError, Global};
 
@@ -24,7 +25,7 @@ pub(crate) fn introduce(alloc: Global, premises: &[Term], th: Thm) -> Result<Thm
 }
 
 /// The theorem with a rule's premises in the place of the premise behind the first ones.
-#[tactic(auto, unfolding(crate::specs::Steps::cut))]
+#[tactic(auto, unfolding(crate::specs::Private::Steps::cut_by))]
 pub(crate) fn cut_by_inferences(
     alloc: Global,
     before: &[Term],
@@ -32,7 +33,7 @@ pub(crate) fn cut_by_inferences(
     th: &Thm,
     rule: &Thm,
 ) -> Result<Thm, InferenceError>
-    ensures { Answers result (cut before.now premises.now th.now rule.now) }
+    ensures { Answers result (cut_by before.now premises.now th.now rule.now) }
 {
     let front = eliminate(alloc, before, th.copy(alloc)?)?;
     let met = eliminate(alloc, premises, rule.copy(alloc)?)?;
@@ -42,6 +43,10 @@ pub(crate) fn cut_by_inferences(
 }
 
 /// The theorem with a rule's premises in the place of the premise behind the first ones, which the rule's conclusion equals.
+///
+/// Of `us ==> a ==> c` and `bs ==> a` it is `us ==> bs ==> c`, by the axioms of both, under the hypotheses of both but those
+/// that equal one of us and bs. `Shape` comes exactly where the theorem has not the premises us and one more, where the rule
+/// has not the premises bs, and where what stands behind these is not that premise.
 pub fn cut(
     alloc: Global,
     before: &[Term],
@@ -58,14 +63,14 @@ pub fn cut(
 }
 
 /// Two blocks of leading premises, the second one put in front.
-#[tactic(auto, unfolding(crate::specs::Steps::rotated))]
+#[tactic(auto, unfolding(crate::specs::Private::Steps::rotated_by))]
 fn rotate_by_inferences(
     alloc: Global,
     first: &[Term],
     second: &[Term],
     th: &Thm,
 ) -> Result<Thm, InferenceError>
-    ensures { Answers result (rotated first.now second.now th.now) }
+    ensures { Answers result (rotated_by first.now second.now th.now) }
 {
     let opened = eliminate(alloc, first, th.copy(alloc)?)?;
     let bare = eliminate(alloc, second, opened)?;
@@ -74,6 +79,9 @@ fn rotate_by_inferences(
 }
 
 /// The theorem with the second block of its leading premises in front of the first one.
+///
+/// Of `us ==> vs ==> c` it is `vs ==> us ==> c`, without the hypotheses that equal one of us and vs. `Shape` comes exactly
+/// where the theorem has not the premises us and then vs.
 pub fn rotate(
     alloc: Global,
     first: &[Term],
@@ -85,19 +93,6 @@ pub fn rotate(
 {
     th.is_derived();
     rotate_by_inferences(alloc, first, second, th)
-}
-
-/// `H1 ==> .. ==> Hm ==> C`.
-pub fn make_implies(alloc: Global, premises: &[Term], conclusion: &Term) -> Result<Term, AllocError>
-    ensures { IfOk result (λ t. t ≡ implies premises.now conclusion.now) }
-{
-    match premises.split_first() {
-        None => conclusion.copy(),
-        Some((first, rest)) => {
-            let behind = make_implies(alloc, rest, conclusion)?;
-            make_imp(alloc, first, &behind)
-        }
-    }
 }
 
 /// The terms, each under the premises, behind those that are done.
@@ -119,7 +114,7 @@ fn put_under(
 }
 
 /// What is behind the premises, each of which is met under the assumptions.
-#[tactic(auto, unfolding(crate::specs::Steps::met_under))]
+#[tactic(auto, unfolding(crate::specs::Private::Steps::met_under))]
 fn meet_under(
     alloc: Global,
     assumptions: &[Term],
@@ -141,14 +136,14 @@ fn meet_under(
 }
 
 /// The theorem with its premises and what is behind them under the assumptions.
-#[tactic(auto, unfolding(crate::specs::Steps::raised))]
+#[tactic(auto, unfolding(crate::specs::Private::Steps::raised_by))]
 pub(crate) fn raise_by_inferences(
     alloc: Global,
     assumptions: &[Term],
     premises: &[Term],
     th: Thm,
 ) -> Result<Thm, InferenceError>
-    ensures { Answers result (raised assumptions.now premises.now th) }
+    ensures { Answers result (raised_by assumptions.now premises.now th) }
 {
     let core = meet_under(alloc, assumptions, premises, th)?;
     let inner = introduce(alloc, assumptions, core)?;
@@ -157,6 +152,10 @@ pub(crate) fn raise_by_inferences(
 }
 
 /// The rule of those premises under the assumptions: each premise and the conclusion.
+///
+/// Of `p1 ==> .. ==> pn ==> c` it is `(hs ==> p1) ==> .. ==> (hs ==> pn) ==> hs ==> c`, without the hypotheses that equal one
+/// of these premises or an assumption. `Shape` comes exactly where the rule has not those premises, and where an assumption
+/// is no proposition.
 pub fn raise_rule(
     alloc: Global,
     assumptions: &[Term],

@@ -5,7 +5,7 @@ use Rattle.isa_tokens.specs.declared.bracket.Bracket.{Bracket}
 use Rattle.isa_tokens.specs.declared.bracket.Bracket.TheVariants.{Comment, Cartouche, Quotes}
 use Rattle.isa_tokens.specs.declared.token.Fault.TheVariants.{Byte, Deep}
 use Rattle.isa_tokens.specs.Private.Scans.{IsBehind}
-use Rattle.isa_tokens.specs.Tokens.{Inside, Closes, Unclosed, Breaks, inside_end, opens, closes, allows, starts}
+use Rattle.isa_tokens.specs.Tokens.{Closes, Breaks, inside_end, opens, closes, allows, starts}
 
 -- the bytes of a mark are passed
 passed : (k : Bracket) (p d : ℕ) (bs : List ℕ) → p ≤ length bs → inside_end k p d bs ≡ inside_end k 0 d (drop p bs)

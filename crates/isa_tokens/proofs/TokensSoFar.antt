@@ -6,7 +6,7 @@ use Rattle.isa_tokens.specs.declared.token.Fault.{Fault}
 use Rattle.isa_tokens.specs.declared.token.Lexeme.{Lexeme}
 use Rattle.isa_tokens.specs.declared.token.Lexeme.TheVariants.{End, Broken}
 use Rattle.isa_tokens.specs.declared.token.Token.{Token}
-use Rattle.isa_tokens.specs.Tokens.{Front, Ends, Skips, Gives, Faults, front_of, line_of, Reads, ends, skips, gives, faults}
+use Rattle.isa_tokens.specs.Tokens.{Ends, Skips, Gives, Faults, front_of, line_of, Reads, ends, skips, gives, faults}
 use Rattle.isa_tokens.specs.Private.Scans.{IsBehind}
 use Rattle.isa_tokens.proofs.InsideSteps.{still_behind, all_behind}
 

@@ -1,7 +1,7 @@
 //! The tokens of a theory file.
 #![tactic(auto)]
 
-ghost use Rattle.isa_tokens.specs.Tokens.{OneCutting};
+ghost use Rattle.isa_tokens.specs.Tokens.{OneCutting, EachIsCut};
 
 mod bracket;
 mod lexer;
@@ -14,4 +14,9 @@ pub use token::{Bytes, Fault, Lexeme, Token};
 /// A text has one list of tokens.
 pub fn one_cutting()
     ensures { OneCutting }
+{}
+
+/// Each text has tokens.
+pub fn each_is_cut()
+    ensures { EachIsCut }
 {}

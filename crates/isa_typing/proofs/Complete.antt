@@ -8,7 +8,7 @@ use Rattle.isa_terms.specs.Typing.{function_of}
 use Rattle.isa_terms.specs.Equal.{name_eq}
 use Rattle.isa_typing.specs.Marks.{ty_with, tys_with, retyped, spelled, kept, kept_variable, kept_unknown, constant_unknown, constant_type_at, node_type, free_type, named, numbered}
 use Rattle.isa_typing.specs.Typings.{Variables, instance_at, IsTyped, IsBound, IsConstant, IsFree, IsUnknown, IsNotation, IsAnnotated, IsAbstraction, IsApplication}
-use Rattle.isa_typing.specs.RawTerms.{Raw, RawName, RawUnknown, RawConst, RawTyped, RawAbs, RawApp, raw_size}
+use Rattle.isa_raw.specs.RawTerms.{Raw, RawName, RawUnknown, RawConst, RawTyped, RawAbs, RawApp, raw_size}
 use Rattle.isa_typing.specs.Scopes.{Declared, Scope, bound_at}
 use Rattle.isa_typing.specs.Inference.{Inferred, atom, constant_inferred, notation_inferred, global_inferred, name_inferred, binder_type, annotated, abstracted, applied, inferred}
 use Rattle.isa_typing.proofs.Replacing.{instance_kept, named-spelled, numbered-spelled}

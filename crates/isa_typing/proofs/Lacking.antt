@@ -12,7 +12,7 @@ use Rattle.isa_unify.specs.TypeUnification.{Unifies, IsMostGeneral}
 use Rattle.isa_typing.specs.Marks.{ty_with, tys_with, retyped, spelled, named, kept, kept_variable, kept_unknown, constant_unknown, constant_type_at, node_type, free_type, unknown_type}
 use Rattle.isa_typing.specs.Typings.{instance_at}
 use Rattle.isa_typing.specs.TextNames.{names_in_ty, names_in_tys, names_if_any, names_in}
-use Rattle.isa_typing.specs.RawTerms.{Raw, RawName, RawUnknown, RawConst, RawTyped, RawAbs, RawApp, raw_size}
+use Rattle.isa_raw.specs.RawTerms.{Raw, RawName, RawUnknown, RawConst, RawTyped, RawAbs, RawApp, raw_size}
 use Rattle.isa_typing.specs.Scopes.{Declared, Scope, bound_at}
 use Rattle.isa_typing.specs.Inference.{Inferred, atom, constant_inferred, impossible, undeclared, notation_inferred, global_inferred, name_inferred, binder_type, annotated, abstracted, applied, inferred}
 use Rattle.isa_typing.proofs.Replacing.{named-spelled}

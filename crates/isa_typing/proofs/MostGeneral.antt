@@ -1,7 +1,6 @@
 -- The typing of a most general unifier, its open types named, is the most general typing.
-use Rattle.std.proofs.Common.{◌≡◌, ℕ, zero, suc, ◌+◌, ◌<◌, List, [], ◌∷◌, ◌++◌, length, reverse, Bool, true, false, cond, ◌&&◌, ◌||◌, nat_eq, Option, Some, None, refl, sym, ap, ◌∙◌, subst, unwrap_or, arith}
+use Rattle.std.proofs.Common.{◌≡◌, ℕ, zero, suc, ◌+◌, ◌<◌, List, [], ◌∷◌, ◌++◌, length, map, reverse, Bool, true, false, cond, ◌&&◌, ◌||◌, nat_eq, Option, Some, None, refl, sym, ap, ◌∙◌, subst, unwrap_or, arith}
 use Rattle.std.proofs.lemmas.List.{reverse-append, reverse-reverse}
-use Rattle.std.specs.Prelude.{option_map}
 use Rattle.isa_terms.specs.Norm.{norm}
 use Rattle.isa_terms.specs.Types.{Ty, Tys, TyCon, TyFixed, TyUnknown, NoTys, MoreTys}
 use Rattle.isa_terms.specs.Terms.{Tm, Const, Free, Unknown, Bound, Abs, App}
@@ -11,20 +10,21 @@ use Rattle.isa_terms.specs.Instance.{inst_ty, inst_tys, inst_tm, find_type}
 use Rattle.isa_terms.specs.Unknowns.{ty_unknown_places, tys_unknown_places, type_unknown_places, has_ty, ty_noted, tys_noted, type_unknowns_of}
 use Rattle.isa_terms.specs.declared.inst.TypeEntry.{TypeEntry}
 use Rattle.isa_terms.proofs.Equal.{ty_decides}
-use Rattle.isa_unify.specs.TypeUnification.{Unifies, IsMostGeneral, unify_typs}
-use Rattle.isa_unify.proofs.TypesUnify.{types_most_general}
+use Rattle.isa_unify.specs.TypeUnification.{Unifies, IsMostGeneral}
+use Rattle.isa_unify.specs.TypeStacks.{pair_of, stack_of}
+use Rattle.isa_unify.specs.declared.types.TypePair.{TypePair}
 use Rattle.isa_unify.proofs.Tests.{name_self, name_true, key_true, key_turned}
 use Rattle.isa_typing.specs.Marks.{ty_with, tys_with, retyped, spelled, named, numbered, of_text, thawed_name, thawed, kept, kept_variable}
 use Rattle.isa_typing.specs.Typings.{Variables, instance_at, IsTyped}
 use Rattle.isa_typing.specs.TextNames.{names_in}
 use Rattle.isa_typing.specs.NewNames.{variable_name, IsFirstFree, AreFirstFree}
-use Rattle.isa_typing.specs.Naming.{entries_for, IsNamed, solved_of}
-use Rattle.isa_typing.specs.Principal.{IsTyping, type_beside, with_types, names_of, variable_places, first_occurrences, IsMostGeneralTyping, Answers}
-use Rattle.isa_typing.specs.RawTerms.{Raw}
+use Rattle.isa_typing.specs.Naming.{entries_for, IsNamed, IsSolved}
+use Rattle.isa_typing.specs.Principal.{IsTyping, type_beside, with_types, names_of, variable_places, first_occurrences, IsMostGeneralTyping, IsPrincipal, HasNoTyping}
+use Rattle.isa_raw.specs.RawTerms.{Raw}
 use Rattle.isa_typing.specs.Scopes.{Declared}
-use Rattle.isa_typing.specs.Inference.{Inferred, inferred}
+use Rattle.isa_typing.specs.Inference.{Inferred, inferred, term_of, equations_of}
 use Rattle.isa_typing.proofs.Replacing.{thawed-kept, retyped-retyped, retyped_same, retyped_nothing, ty_with-ty_with, ty_with_same}
-use Rattle.isa_typing.proofs.Solutions.{Solution, Solves, solves_both, wanted}
+use Rattle.isa_typing.proofs.Solutions.{Solution, Solves, wanted}
 use Rattle.isa_typing.proofs.Sound.{found, variables_of, solution_means}
 use Rattle.isa_typing.proofs.Complete.{EachSolution, each_solution}
 use Rattle.isa_typing.proofs.Unifiers.{solution_of, inst_ty_at, unifier_solves, most_general_at, no_solution}
@@ -181,18 +181,21 @@ unifies_reversed r (e ∷ es) u = subst (Unifies r) (sym (reverse-append (e ∷ 
 unifies_back : (r : List TypeEntry) (es : List (Ty × Ty)) → Unifies r (reverse es) → Unifies r es
 unifies_back r es u = subst (Unifies r) (reverse-reverse es) (unifies_reversed r (reverse es) u)
 
-solves_reversed : (r : Solution) (es : List (Ty × Ty)) → Solves r es → Solves r (reverse es)
-solves_reversed r [] s = tt
-solves_reversed r (e ∷ es) s = subst (Solves r) (sym (reverse-append (e ∷ []) es)) (solves_both r (reverse es) (e ∷ []) (solves_reversed r es s.1) (s.0, tt))
-
 general_of_reversed : (es : List (Ty × Ty)) (q : List TypeEntry) → IsMostGeneral (reverse es) q → IsMostGeneral es q
 general_of_reversed es q g = record { unifies = unifies_back q es g.unifies; general = λ r u T. g.general r (unifies_reversed r es u) T }
 
+-- a most general unifier of the pairs in the other order is one of the equations
+pub general_of_pairs : (ps : List TypePair) (es : List (Ty × Ty)) (q : List TypeEntry) → map pair_of ps ≡ es → IsMostGeneral (stack_of ps) q → IsMostGeneral es q
+general_of_pairs ps es q e g = subst (λ ds. IsMostGeneral ds q) e (general_of_reversed (map pair_of ps) q g)
+
+pub none_of_pairs : (ps : List TypePair) (es : List (Ty × Ty)) → map pair_of ps ≡ es → ((q : List TypeEntry) → Unifies q (stack_of ps) → ⊥) → (q : List TypeEntry) → Unifies q es → ⊥
+none_of_pairs ps es e none q u = none q (unifies_reversed q (map pair_of ps) (subst (Unifies q) (sym e) u))
+
 -- without a unifier there is no typing
-pub no_typing : (declared : Declared) (u : Raw) → unify_typs (reverse (inferred declared [] 1 u).equations) ≡ None → (t : Tm) → IsTyping declared u t → ⊥
-no_typing declared u e t h =
+pub no_typing : (declared : Declared) (u : Raw) → ((q : List TypeEntry) → Unifies q (equations_of declared u) → ⊥) → HasNoTyping declared u
+no_typing declared u none t h =
     let s = each_solution declared h.variables u t h.typ h.typed in
-    no_solution (reverse (inferred declared [] 1 u).equations) e s.solution (solves_reversed s.solution (inferred declared [] 1 u).equations s.solves)
+    no_solution (equations_of declared u) none s.solution s.solves
 
 -- each typing, by the solution from which it comes
 is_general : (declared : Declared) (u : Raw) (q : List TypeEntry) (ns : List (List ℕ)) → IsMostGeneral (inferred declared [] 1 u).equations q → let X = retyped (inst_ty q) (inferred declared [] 1 u).term in (Us : List Ty) → Us ≡ type_unknowns_of (X ∷ []) → length ns ≡ length Us → AreFirstFree (names_in declared u) ns → (t : Tm) → (s : EachSolution (inferred declared [] 1 u) t) → t ≡ retyped (with_types (types_beside s.solution Us ns)) (retyped (λ T. thawed (inst_ty (entries_for Us ns) T)) X)
@@ -207,10 +210,9 @@ is_general declared u q ns g Us e l f t s =
     sym plain ∙ (ap (retyped thawed) (sym s.term) ∙ (by_r ∙ (sym (general_term (names_in declared u) r Us ns l f X noted lacking) ∙ sym (retyped-retyped (with_types (types_beside r Us ns)) (λ T. thawed (inst_ty (entries_for Us ns) T)) X))))
 
 -- the term under a most general unifier, its variables named, is the most general typing
-pub most_general_typing : (declared : Declared) (u : Raw) (q : List TypeEntry) (ns : List (List ℕ)) → unify_typs (reverse (inferred declared [] 1 u).equations) ≡ Some q → length ns ≡ length (type_unknowns_of (inst_tm q [] (inferred declared [] 1 u).term ∷ [])) → AreFirstFree (names_in declared u) ns → IsMostGeneralTyping declared u ns (retyped thawed (inst_tm (entries_for (type_unknowns_of (inst_tm q [] (inferred declared [] 1 u).term ∷ [])) ns) [] (inst_tm q [] (inferred declared [] 1 u).term)))
-most_general_typing declared u q ns e l f =
+pub most_general_typing : (declared : Declared) (u : Raw) (q : List TypeEntry) (ns : List (List ℕ)) → IsMostGeneral (equations_of declared u) q → length ns ≡ length (type_unknowns_of (inst_tm q [] (inferred declared [] 1 u).term ∷ [])) → AreFirstFree (names_in declared u) ns → IsMostGeneralTyping declared u ns (retyped thawed (inst_tm (entries_for (type_unknowns_of (inst_tm q [] (inferred declared [] 1 u).term ∷ [])) ns) [] (inst_tm q [] (inferred declared [] 1 u).term)))
+most_general_typing declared u q ns g l f =
     let p = inferred declared [] 1 u in
-    let g : IsMostGeneral p.equations q = general_of_reversed p.equations q (types_most_general (reverse p.equations) q e) in
     let Us : List Ty = type_unknowns_of (inst_tm q [] p.term ∷ []) in
     let same : Us ≡ type_unknowns_of (retyped (inst_ty q) p.term ∷ []) = ap (λ X. type_unknowns_of (X ∷ [])) (inst_tm_types q p.term) in
     let X : Tm = inst_tm q [] p.term in
@@ -227,20 +229,15 @@ most_general_typing declared u q ns e l f =
 
 -- 6. The two answers
 
-abbrev under : Declared → Raw → List TypeEntry → Tm
-under declared u q = inst_tm q [] (inferred declared [] 1 u).term
+pub solved_by_unifier : (declared : Declared) (u : Raw) (q : List TypeEntry) (solved : Tm) → IsMostGeneral (equations_of declared u) q → solved ≡ inst_tm q [] (term_of declared u) → IsSolved declared u solved
+solved_by_unifier declared u q solved g e = record { unifier = q; is_most_general = g; term = e }
 
-pub no_answer : (declared : Declared) (u : Raw) → solved_of declared u ≡ None → Answers declared u None
-no_answer declared u e = at (unify_typs (reverse (inferred declared [] 1 u).equations)) refl e where
-  at : (o : Option (List TypeEntry)) → unify_typs (reverse (inferred declared [] 1 u).equations) ≡ o → option_map (under declared u) o ≡ None → (t : Tm) → IsTyping declared u t → ⊥
-  at None w e = no_typing declared u w
-  at (Some q) w e = absurd (cc)
-
-pub some_answer : (declared : Declared) (u : Raw) (solved p t : Tm) → solved_of declared u ≡ Some solved → IsNamed (names_in declared u) solved p → t ≡ norm p → Answers declared u (Some t)
-some_answer declared u solved p t e m h = at (unify_typs (reverse (inferred declared [] 1 u).equations)) refl e where
-  at : (o : Option (List TypeEntry)) → unify_typs (reverse (inferred declared [] 1 u).equations) ≡ o → option_map (under declared u) o ≡ Some solved → Answers declared u (Some t)
-  at None w e = absurd (cc)
-  at (Some q) w e =
-      let is : solved ≡ under declared u q = cc in
-      let n : IsNamed (names_in declared u) (under declared u q) p = subst (λ z. IsNamed (names_in declared u) z p) is m in
-      (p, (n.names, (subst (IsMostGeneralTyping declared u n.names) (sym n.term) (most_general_typing declared u q n.names w n.are_all n.are_new), h)))
+pub principal_of_named : (declared : Declared) (u : Raw) (solved p t : Tm) → IsSolved declared u solved → IsNamed (names_in declared u) solved p → t ≡ norm p → IsPrincipal declared u t
+principal_of_named declared u solved p t s m h =
+    let n : IsNamed (names_in declared u) (inst_tm s.unifier [] (term_of declared u)) p = subst (λ z. IsNamed (names_in declared u) z p) s.term m in
+    record {
+      typing = p;
+      names = n.names;
+      is_most_general = subst (IsMostGeneralTyping declared u n.names) (sym n.term) (most_general_typing declared u s.unifier n.names s.is_most_general n.are_all n.are_new);
+      is_normal_form = h;
+    }

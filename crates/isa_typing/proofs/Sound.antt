@@ -7,7 +7,7 @@ use Rattle.isa_terms.specs.Typing.{function_of}
 use Rattle.isa_terms.specs.Equal.{name_eq}
 use Rattle.isa_typing.specs.Marks.{ty_with, tys_with, retyped, spelled, kept, kept_variable, constant_unknown, constant_type_at, node_type, thawed}
 use Rattle.isa_typing.specs.Typings.{Variables, instance_at, IsTyped, IsBound, IsConstant, IsFree, IsUnknown, IsNotation, IsAnnotated, IsAbstraction, IsApplication}
-use Rattle.isa_typing.specs.RawTerms.{Raw, RawName, RawUnknown, RawConst, RawTyped, RawAbs, RawApp, raw_size}
+use Rattle.isa_raw.specs.RawTerms.{Raw, RawName, RawUnknown, RawConst, RawTyped, RawAbs, RawApp, raw_size}
 use Rattle.isa_typing.specs.Scopes.{Declared, Scope, bound_at}
 use Rattle.isa_typing.specs.Inference.{Inferred, atom, constant_inferred, impossible, undeclared, notation_inferred, global_inferred, name_inferred, binder_type, annotated, abstracted, applied, inferred}
 use Rattle.isa_typing.proofs.Replacing.{instance_kept, thawed-kept}

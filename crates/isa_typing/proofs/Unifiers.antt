@@ -4,8 +4,7 @@ use Rattle.isa_terms.specs.Types.{Ty, Tys, TyCon, TyFixed, TyUnknown, NoTys, Mor
 use Rattle.isa_terms.specs.Equal.{name_eq}
 use Rattle.isa_terms.specs.Instance.{inst_ty, inst_tys, find_type}
 use Rattle.isa_terms.specs.declared.inst.TypeEntry.{TypeEntry}
-use Rattle.isa_unify.specs.TypeUnification.{Unifies, IsMostGeneral, ty_keys, tys_keys, unify_typs}
-use Rattle.isa_unify.proofs.TypesUnify.{types_no_unifier}
+use Rattle.isa_unify.specs.TypeUnification.{Unifies, IsMostGeneral, ty_keys, tys_keys}
 use Rattle.isa_unify.proofs.Tests.{key_self, key_true}
 use Rattle.isa_typing.specs.Marks.{ty_with, tys_with}
 use Rattle.isa_typing.specs.Typings.{instance_at}
@@ -158,6 +157,5 @@ most_general_at es q g r s T =
     sym (inst_entries r ks U u) ∙ (g.general (entries r ks) unifies T ∙ inst_entries r ks T t)
 
 -- without a unifier there is no solution
-pub no_solution : (es : List (Ty × Ty)) → unify_typs es ≡ None → (r : Solution) → Solves r es → ⊥
-no_solution es e r s =
-    types_no_unifier es e (entries r (equation_keys es)) (solution_unifies r (equation_keys es) es (own_equation_keys es) s)
+pub no_solution : (es : List (Ty × Ty)) → ((q : List TypeEntry) → Unifies q es → ⊥) → (r : Solution) → Solves r es → ⊥
+no_solution es none r s = none (entries r (equation_keys es)) (solution_unifies r (equation_keys es) es (own_equation_keys es) s)

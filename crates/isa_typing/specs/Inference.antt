@@ -4,7 +4,7 @@ use Rattle.std.specs.Prelude.{ℕ, ◌+◌, List, [], ◌∷◌, ◌++◌, Optio
 use Rattle.isa_terms.specs.Types.{Ty, TyCon, TyFixed, NoTys}
 use Rattle.isa_terms.specs.Terms.{Tm, Const, Free, Unknown, Bound, Abs, App}
 use Rattle.isa_terms.specs.Typing.{function_of}
-use Rattle.isa_typing.specs.RawTerms.{Raw, RawName, RawUnknown, RawConst, RawTyped, RawAbs, RawApp, raw_size}
+use Rattle.isa_raw.specs.RawTerms.{Raw, RawName, RawUnknown, RawConst, RawTyped, RawAbs, RawApp, raw_size}
 use Rattle.isa_typing.specs.Scopes.{Declared, Scope, bound_at}
 use Rattle.isa_typing.specs.Marks.{kept, node_type, free_type, unknown_type, constant_type_at}
 
@@ -63,3 +63,10 @@ inferred declared G n (RawConst c) = notation_inferred n c (declared c)
 inferred declared G n (RawTyped r T) = annotated (inferred declared G (n + 1) r) T
 inferred declared G n (RawAbs x o r) = abstracted x (binder_type n o) (inferred declared ((x, binder_type n o) ∷ G) (n + 1) r)
 inferred declared G n (RawApp f a) = applied n (inferred declared G (n + 1) f) (inferred declared G (n + 1 + raw_size f) a)
+
+-- the term of a whole text, and its equations
+abbrev pub term_of : Declared → Raw → Tm
+term_of declared u = (inferred declared [] 1 u).term
+
+abbrev pub equations_of : Declared → Raw → List (Ty × Ty)
+equations_of declared u = (inferred declared [] 1 u).equations

@@ -1,11 +1,8 @@
-pub mod RawTerms
-pub mod RawCodes
-pub mod RawLayers
-pub mod RawFalls
 pub mod Scopes
 pub mod Typings
 pub mod Marks
 pub mod Inference
+pub mod BinderLists
 pub mod NewNames
 pub mod TextNames
 pub mod Naming

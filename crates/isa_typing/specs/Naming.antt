@@ -1,9 +1,9 @@
 -- Type variables in the place of the variables that unification leaves open.
-use Rattle.std.specs.Prelude.{◌≡◌, ℕ, List, [], ◌∷◌, length, reverse, Option, option_map}
-use Rattle.isa_unify.specs.TypeUnification.{unify_typs}
-use Rattle.isa_typing.specs.RawTerms.{Raw}
+use Rattle.std.specs.Prelude.{◌≡◌, ℕ, List, [], ◌∷◌, length}
+use Rattle.isa_unify.specs.TypeUnification.{IsMostGeneral}
+use Rattle.isa_raw.specs.RawTerms.{Raw}
 use Rattle.isa_typing.specs.Scopes.{Declared}
-use Rattle.isa_typing.specs.Inference.{inferred}
+use Rattle.isa_typing.specs.Inference.{term_of, equations_of}
 use Rattle.isa_terms.specs.Terms.{Tm}
 use Rattle.isa_terms.specs.Instance.{inst_tm}
 use Rattle.isa_terms.specs.Unknowns.{type_unknowns_of}
@@ -27,6 +27,8 @@ pub record IsNamed (taken : List (List ℕ)) (solved p : Tm) : Type 0 where
   pub are_all : length names ≡ length (type_unknowns_of (solved ∷ []))
   pub term : p ≡ retyped thawed (inst_tm (entries_for (type_unknowns_of (solved ∷ [])) names) [] solved)
 
--- the term under a most general unifier of its equations, if they have one
-abbrev pub solved_of : Declared → Raw → Option Tm
-solved_of declared u = option_map (λ (q : List TypeEntry). inst_tm q [] (inferred declared [] 1 u).term) (unify_typs (reverse (inferred declared [] 1 u).equations))
+-- the term is the one that inference found, under a most general unifier of its equations
+pub record IsSolved (declared : Declared) (u : Raw) (solved : Tm) : Type 0 where
+  pub unifier : List TypeEntry
+  pub is_most_general : IsMostGeneral (equations_of declared u) unifier
+  pub term : solved ≡ inst_tm unifier [] (term_of declared u)

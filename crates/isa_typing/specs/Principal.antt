@@ -1,17 +1,19 @@
 -- Principal types: the most general typing of a text, its open types being type variables of new names.
 -- Source: principal types (Damas and Milner, "Principal type-schemes for functional programs", 1982); names after Isabelle's.
-use Rattle.std.specs.Prelude.{◌≡◌, ℕ, List, [], ◌∷◌, ◌++◌, Option, Some, None, false, if◌then◌else◌}
+use Rattle.std.specs.Prelude.{◌≡◌, ℕ, List, [], ◌∷◌, ◌++◌, Result, Ok, Err, false, if◌then◌else◌}
 use Rattle.isa_terms.specs.Types.{Ty, TyFixed, TyUnknown}
 use Rattle.isa_terms.specs.Terms.{Tm, Const, Free, Unknown, Bound, Abs, App}
 use Rattle.isa_terms.specs.Equal.{name_eq}
 use Rattle.isa_terms.specs.Generalize.{is_named}
 use Rattle.isa_terms.specs.Norm.{norm}
-use Rattle.isa_typing.specs.RawTerms.{Raw}
+use Rattle.isa_raw.specs.RawTerms.{Raw}
 use Rattle.isa_typing.specs.Scopes.{Declared}
 use Rattle.isa_typing.specs.Typings.{Variables, IsTyped}
 use Rattle.isa_typing.specs.Marks.{ty_with, retyped}
 use Rattle.isa_typing.specs.TextNames.{names_in_ty, names_in}
 use Rattle.isa_typing.specs.NewNames.{AreFirstFree}
+use Rattle.isa_typing.specs.declared.error.InferError.{InferError}
+use Rattle.isa_typing.specs.declared.error.InferError.TheVariants.{Types, Memory}
 
 -- the text may mean the term t
 pub record IsTyping (declared : Declared) (u : Raw) (t : Tm) : Type 0 where
@@ -59,7 +61,19 @@ pub record IsMostGeneralTyping (declared : Declared) (u : Raw) (names : List (Li
   pub in_order : first_occurrences names [] (variable_places p) ≡ names
   pub is_general : (t : Tm) → IsTyping declared u t → (es : List (List ℕ × Ty)) × ((names_of es ≡ names) × (t ≡ retyped (with_types es) p))
 
--- the answer to a text: the principal typing in normal form, or none where there is no typing
-abbrev pub Answers : Declared → Raw → Option Tm → Type 0
-Answers declared u None = (t : Tm) → IsTyping declared u t → ⊥
-Answers declared u (Some t) = (p : Tm) × ((names : List (List ℕ)) × (IsMostGeneralTyping declared u names p × (t ≡ norm p)))
+-- t is the principal term of the text: its most general typing in normal form
+pub record IsPrincipal (declared : Declared) (u : Raw) (t : Tm) : Type 0 where
+  pub typing : Tm
+  pub names : List (List ℕ)
+  pub is_most_general : IsMostGeneralTyping declared u names typing
+  pub is_normal_form : t ≡ norm typing
+
+-- the text has no typing
+abbrev pub HasNoTyping : Declared → Raw → Type 0
+HasNoTyping declared u = (t : Tm) → IsTyping declared u t → ⊥
+
+-- the principal term is answered, and else that the types do not agree, where there was memory
+abbrev pub Infers : Declared → Raw → Result Tm InferError → Type 0
+Infers declared u (Ok t) = IsPrincipal declared u t
+Infers declared u (Err Types) = HasNoTyping declared u
+Infers declared u (Err Memory) = Unit {0}

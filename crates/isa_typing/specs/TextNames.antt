@@ -2,7 +2,7 @@
 -- Source: variables of a context in Isabelle/Pure (The Isabelle/Isar Implementation Manual, "Names").
 use Rattle.std.specs.Prelude.{ℕ, List, [], ◌∷◌, ◌++◌, Bool, true, false, Option, Some, None, if◌then◌else◌}
 use Rattle.isa_terms.specs.Types.{Ty, Tys, TyCon, TyFixed, TyUnknown, NoTys, MoreTys}
-use Rattle.isa_typing.specs.RawTerms.{Raw, RawName, RawUnknown, RawConst, RawTyped, RawAbs, RawApp}
+use Rattle.isa_raw.specs.RawTerms.{Raw, RawName, RawUnknown, RawConst, RawTyped, RawAbs, RawApp}
 use Rattle.isa_typing.specs.Scopes.{Declared}
 
 -- the names of a type's type variables, and of its type unknowns too where they are asked for

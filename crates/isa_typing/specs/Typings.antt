@@ -6,7 +6,7 @@ use Rattle.isa_terms.specs.Terms.{Tm, Const, Free, Unknown, Bound, Abs, App}
 use Rattle.isa_terms.specs.Typing.{function_of}
 use Rattle.isa_typing.specs.Marks.{ty_with}
 use Rattle.isa_terms.specs.Types.{TyFixed}
-use Rattle.isa_typing.specs.RawTerms.{Raw, RawName, RawUnknown, RawConst, RawTyped, RawAbs, RawApp}
+use Rattle.isa_raw.specs.RawTerms.{Raw, RawName, RawUnknown, RawConst, RawTyped, RawAbs, RawApp}
 use Rattle.isa_typing.specs.Scopes.{Declared, Scope, bound_at}
 
 -- one type for each free variable and one for each unknown of the text

@@ -1,8 +1,15 @@
 //! Principal types of the terms that texts give.
 #![tactic(auto)]
 
+mod error;
+mod inferred;
 mod laws;
-mod raw;
+mod marks;
+mod naming;
+mod principal;
+mod text_names;
 
+pub use error::InferError;
+pub use isa_raw::{RawNode, RawTerm};
 pub use laws::unifiers_are_principal;
-pub use raw::{RawNode, RawTerm};
+pub use principal::infer;

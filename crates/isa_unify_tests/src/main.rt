@@ -2,6 +2,7 @@
 // stdin explains the rows.
 #![tactic(auto)]
 
+mod constants;
 mod instances;
 mod matches;
 mod rows;

@@ -1,5 +1,6 @@
-use crate::matches::{match_all_row, match_row};
-use crate::unifications::{types_row, unify_row};
+use crate::constants::constants_row;
+use crate::matches::{match_all_row, match_from_row, match_on_row, match_row};
+use crate::unifications::{all_types_row, types_row, unify_all_row, unify_row};
 use isa_sketch::{Bench, Fault, split};
 use std::alloc::Global;
 
@@ -41,9 +42,14 @@ fn call_row(alloc: Global, bench: &Bench, wanted: &str, rest: &str) -> Result<bo
 fn answers(alloc: Global, bench: &Bench, verb: &str, row: &Call<'_>) -> Result<bool, Fault> {
     match verb {
         "unify" => unify_row(alloc, bench, row),
+        "unify_all" => unify_all_row(alloc, bench, row),
         "match" => match_row(alloc, bench, row),
         "match_all" => match_all_row(alloc, bench, row),
+        "match_from" => match_from_row(alloc, bench, row),
+        "match_on" => match_on_row(alloc, bench, row),
+        "constants" => constants_row(alloc, bench, row),
         "unify_types" => types_row(alloc, row),
+        "unify_all_types" => all_types_row(alloc, row),
         _ => Err(Fault::Words),
     }
 }

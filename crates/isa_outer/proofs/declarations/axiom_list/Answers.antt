@@ -1,4 +1,4 @@
-use Rattle.std.proofs.Common.{refl, ℕ, List}
+use Rattle.std.proofs.Common.{refl}
 use Rattle.isa_outer.specs.declared.command.Axiom.{Axiom}
 use Rattle.isa_outer.specs.Grammar.{◌▸◌, separated, w, axiom_form}
 use Rattle.isa_outer.proofs.Lists.{list_start, separated_next, separated_end, separated_refused, fails}

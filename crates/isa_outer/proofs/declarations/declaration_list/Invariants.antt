@@ -1,4 +1,4 @@
-use Rattle.std.proofs.Common.{ℕ, List, length}
+use Rattle.std.proofs.Common.{length}
 use Rattle.isa_outer.specs.declared.command.Declaration.{Declaration}
 use Rattle.isa_outer.specs.Grammar.{◌▸◌, w, declaration}
 use Rattle.isa_outer.proofs.Lists.{ListSoFar}

@@ -1,4 +1,4 @@
-use Rattle.std.proofs.Common.{◌≡◌, ◌-◌, ◌<◌, ℕ, suc, length, sym, ◌∙◌, arith}
+use Rattle.std.proofs.Common.{◌-◌, sym, ◌∙◌, arith}
 use Rattle.isa_outer.proofs.Blanks.{blank_last, other_last, less_of}
 use Rattle.isa_outer.proofs.declarations.trimmed_end.Goals as goal
 

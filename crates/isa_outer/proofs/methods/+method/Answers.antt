@@ -1,7 +1,5 @@
-use Rattle.std.proofs.Common.{refl, ◌∙◌, ap, sym, subst, ◌≡◌, List}
+use Rattle.std.proofs.Common.{refl, ◌∙◌, ap}
 use Rattle.isa_outer.specs.Methods.{Method, Node, At, Then, OrElse}
-use Rattle.isa_outer.specs.Forms.{Form, Reading, ◌>>=◌}
-use Rattle.isa_outer.specs.Private.Answers.{Answers}
 use Rattle.isa_outer.specs.Grammar.{◌▸◌, operand, postfix, sequence, choice, postfix_sign, comma, bar}
 use Rattle.isa_outer.specs.Private.Heads.{stops_in}
 use Rattle.isa_outer.proofs.Lists.{fails}

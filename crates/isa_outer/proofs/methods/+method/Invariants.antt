@@ -1,4 +1,4 @@
-use Rattle.std.proofs.Common.{ℕ, ◌+◌, ◌*◌, length}
+use Rattle.std.proofs.Common.{◌+◌, ◌*◌, length}
 use Rattle.isa_outer.specs.Methods.{Method, Node, At, Then, OrElse}
 use Rattle.isa_outer.specs.Grammar.{◌▸◌, operand, postfix, sequence, postfix_sign, comma, bar}
 use Rattle.isa_outer.specs.Private.Heads.{stops_in}

@@ -1,4 +1,4 @@
-use Rattle.std.proofs.Common.{sym, ◌∙◌, subst, List, [], ◌∷◌, ◌++◌, ◌≡◌, arith, ap}
+use Rattle.std.proofs.Common.{sym, ◌∙◌}
 use Rattle.isa_outer.specs.declared.method.Modifier.{Modifier}
 use Rattle.isa_outer.specs.Grammar.{modifier, modifier_list}
 use Rattle.isa_outer.specs.Private.Heads.{head_of, stops_in}

@@ -1,7 +1,6 @@
 use Rattle.std.proofs.Common.{◌≡◌, ◌≤◌, length}
 use Rattle.isa_tokens.specs.Tokens.{inside_end}
 use Rattle.isa_tokens.specs.Private.Scans.{IsBehind}
-use Rattle.isa_tokens.specs.declared.bracket.Bracket.{Bracket}
 use Rattle.isa_tokens.proofs.lexer.inside_end.Given as goal
 
 abbrev pub invariant-loop-first : goal.invariant-loop-first

@@ -1,0 +1,3 @@
+-- What private functions tell: no public clause cites it.
+pub mod Numbers
+pub mod Raising

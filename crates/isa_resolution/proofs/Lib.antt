@@ -1,0 +1,3 @@
+pub mod Readying
+pub mod Answered
+pub mod Joining

@@ -1,0 +1,29 @@
+-- Contexts that grow, and are cut back.
+use Rattle.std.proofs.Common.{◌≡◌, ◌≤◌, List, [], ◌++◌, length, take, refl, sym, ap, ◌∙◌, append_assoc, append-nil, length-append, arith}
+use Rattle.std.proofs.Math.Seq.{take-append_seam}
+use Rattle.isa_theory.specs.Contexts.{ContextSeen}
+use Rattle.isa_theory.specs.Private.Growing.{Goes, Grows}
+
+pub goes_same : {A : Type 0} (xs : List A) → Goes xs xs
+goes_same xs = record { more = []; is = sym (append-nil xs) }
+
+pub goes_more : {A : Type 0} (xs ys zs : List A) → zs ≡ xs ++ ys → Goes xs zs
+goes_more xs ys zs e = record { more = ys; is = e }
+
+pub goes_on : {A : Type 0} (xs ys zs : List A) → Goes xs ys → Goes ys zs → Goes xs zs
+goes_on xs ys zs p q = record { more = p.more ++ q.more; is = q.is ∙ ap (λ l. l ++ q.more) p.is ∙ append_assoc xs p.more q.more }
+
+pub goes_longer : {A : Type 0} (xs ys : List A) → Goes xs ys → length xs ≤ length ys
+goes_longer xs ys g = omega (arith, ap (λ l. length l) g.is, length-append xs g.more)
+
+pub goes_front : {A : Type 0} (xs ys : List A) → Goes xs ys → take (length xs) ys ≡ xs
+goes_front xs ys g = ap (λ l. take (length xs) l) g.is ∙ take-append_seam xs g.more
+
+pub grows_same : (c : ContextSeen) → Grows c c
+grows_same c = record { theory = goes_same c.theory; facts = goes_same c.facts; judgment = refl }
+
+pub grows_on : (a b c : ContextSeen) → Grows a b → Grows b c → Grows a c
+grows_on a b c g h = record { theory = goes_on a.theory b.theory c.theory g.theory h.theory; facts = goes_on a.facts b.facts c.facts g.facts h.facts; judgment = h.judgment ∙ g.judgment }
+
+pub grows_cut : (a b : ContextSeen) → Grows a b → record b { theory = take (length a.theory) b.theory; facts = take (length a.facts) b.facts } ≡ a
+grows_cut a b g = λ i. record { theory = goes_front a.theory b.theory g.theory i; judgment = g.judgment i; facts = goes_front a.facts b.facts g.facts i }

@@ -1,0 +1,84 @@
+-- What each step of a command answers.
+use Rattle.std.proofs.Common.{◌≡◌, ◌≢◌, ℕ, Bool, true, false, List, [], ◌∷◌, ◌++◌, refl, sym, ap, subst, ◌∙◌, append-nil}
+use Rattle.std.specs.Prelude.{Option, Some, None, Result, Ok, Err, IsErrAnd, is_some}
+use Rattle.isa_kernel.specs.declared.declarations.Declaration.{Declaration}
+use Rattle.isa_kernel.specs.declared.declarations.TheoryFail.{TheoryFail}
+use Rattle.isa_kernel.specs.declared.declarations.TheoryFail.TheVariants as fail
+use Rattle.isa_kernel.specs.Theories.{Declares}
+use Rattle.isa_outer.specs.declared.refusal.Kind.{Kind}
+use Rattle.isa_outer.specs.declared.refusal.Kind.TheVariants as kind
+use Rattle.isa_outer.specs.declared.refusal.Sort.{Sort}
+use Rattle.std.specs.Map.{lookup}
+use Rattle.indexmap.specs.IndexMap.{insert_entry}
+use Rattle.isa_terms.specs.Equal.{name_eq}
+use Rattle.isa_kernel.specs.Theorem.{Theorem}
+use Rattle.isa_kernel.proofs.Theories.{insert_new}
+use Rattle.isa_outer.specs.declared.refusal.Sort.TheVariants as sort
+use Rattle.isa_theory.specs.Contexts.{ContextSeen, fact_of}
+use Rattle.isa_theory.specs.Applying.{kind_of, declared, new_name, new_fact, with_fact}
+use Rattle.isa_theory.specs.Private.Growing.{Grows, Becomes}
+use Rattle.isa_theory.specs.Results.{Answers}
+use Rattle.isa_theory.proofs.Growing.{goes_same, goes_more}
+
+-- the theory refused the declaration
+pub refused : (s : Sort) (d : Declaration) (r : Option TheoryFail) (old new : List Declaration) (fault : TheoryFail) (k : Kind) (c : ContextSeen) →
+    Declares d r old new (Err fault) → k ≡ kind_of s fault → k ≢ kind.Memory → declared s d r c ≡ Err k
+refused s d r old new fail.Memory k c h e n = absurd (n e)
+refused s d r old new (fail.Duplicate x) k c h e n = ap (λ o. declared s d o c) h.0 ∙ ap (λ (j : Kind). let z : Result ContextSeen Kind = Err j in z) (sym e)
+refused s d r old new (fail.Unknown x) k c h e n = ap (λ o. declared s d o c) h.0 ∙ ap (λ (j : Kind). let z : Result ContextSeen Kind = Err j in z) (sym e)
+refused s d r old new (fail.Misfit x) k c h e n = ap (λ o. declared s d o c) h.0 ∙ ap (λ (j : Kind). let z : Result ContextSeen Kind = Err j in z) (sym e)
+refused s d r old new (fail.IllTyped x) k c h e n = ap (λ o. declared s d o c) h.0 ∙ ap (λ (j : Kind). let z : Result ContextSeen Kind = Err j in z) (sym e)
+refused s d r old new (fail.NotProp T) k c h e n = ap (λ o. declared s d o c) h.0 ∙ ap (λ (j : Kind). let z : Result ContextSeen Kind = Err j in z) (sym e)
+
+-- and is as it was
+pub unchanged : (d : Declaration) (r : Option TheoryFail) (old new : List Declaration) (fault : TheoryFail) → Declares d r old new (Err fault) → new ≡ old
+unchanged d r old new fail.Memory h = h
+unchanged d r old new (fail.Duplicate x) h = h.1
+unchanged d r old new (fail.Unknown x) h = h.1
+unchanged d r old new (fail.Misfit x) h = h.1
+unchanged d r old new (fail.IllTyped x) h = h.1
+unchanged d r old new (fail.NotProp T) h = h.1
+
+-- the declaration was made
+pub accepted : (s : Sort) (d : Declaration) (r : Option TheoryFail) (new : List Declaration) (c : ContextSeen) → r ≡ None → new ≡ c.theory ++ d ∷ [] →
+    declared s d r c ≡ Ok (record c { theory = new })
+accepted s d r new c e n = ap (λ o. declared s d o c) e ∙ ap (λ (ds : List Declaration). let z : Result ContextSeen Kind = Ok (record c { theory = ds }) in z) (sym n)
+
+pub grows_declared : (c : ContextSeen) (d : Declaration) (new : List Declaration) → new ≡ c.theory ++ d ∷ [] → Grows c (record c { theory = new })
+grows_declared c d new e = record { theory = goes_more c.theory (d ∷ []) new e; facts = goes_same c.facts; judgment = refl }
+
+pub grows_unchanged : (c : ContextSeen) (new : List Declaration) → new ≡ c.theory → Grows c (record c { theory = new })
+grows_unchanged c new e = record { theory = record { more = []; is = e ∙ sym (append-nil c.theory) }; facts = goes_same c.facts; judgment = refl }
+
+-- a function that returned the refusal of a step
+pub answers_refused : {A : Type 0} (wanted : Result A Kind) (r : Result A Kind) (k : Kind) → IsErrAnd r (λ e. e ≡ k) → (k ≢ kind.Memory → wanted ≡ Err k) → Answers r wanted
+answers_refused {A} wanted (Ok a) k h f = absurd h
+answers_refused {A} wanted (Err e) k h f = subst (λ (j : Kind). j ≢ kind.Memory → wanted ≡ Err j) (sym h) f
+
+pub becomes_refused : {A : Type 0} (now : ContextSeen) (wanted : Result ContextSeen Kind) (r : Result A Kind) (k : Kind) → IsErrAnd r (λ e. e ≡ k) → (k ≢ kind.Memory → wanted ≡ Err k) → Becomes r now wanted
+becomes_refused {A} now wanted (Ok a) k h f = absurd h
+becomes_refused {A} now wanted (Err e) k h f = subst (λ (j : Kind). j ≢ kind.Memory → wanted ≡ Err j) (sym h) f
+
+-- a name that passed is new
+new_of : (x : List ℕ) (b : Bool) → new_name sort.Fact x b ≡ Ok tt → b ≡ false
+new_of x true e = absurd cc
+new_of x false e = refl
+
+none_of : {A : Type 0} (o : Option A) → is_some o ≡ false → o ≡ None
+none_of None e = refl
+none_of (Some a) e = absurd cc
+
+pub new_fact_none : (c : ContextSeen) (x : List ℕ) → new_fact c x ≡ Ok tt → fact_of c x ≡ None
+unfolding new_fact
+new_fact_none c x e = none_of (fact_of c x) (new_of x (is_some (fact_of c x)) e)
+
+-- the same after more was declared
+pub still_none : (c d : ContextSeen) (x y : List ℕ) → new_fact c x ≡ Ok tt → d.facts ≡ c.facts → y ≡ x → fact_of d y ≡ None
+still_none c d x y n f e = ap (λ (z : List ℕ). lookup (name_eq z) d.facts) e ∙ ap (λ (fs : List (List ℕ × List Theorem)). lookup (name_eq x) fs) f ∙ new_fact_none c x n
+
+-- a fact of a new name goes last
+pub fact_put : (c : ContextSeen) (x : List ℕ) (ths : List Theorem) (old new : List (List ℕ × List Theorem)) → old ≡ c.facts → fact_of c x ≡ None → new ≡ insert_entry name_eq old x ths → record c { facts = new } ≡ with_fact c x ths
+fact_put c x ths old new o n e = ap (λ (fs : List (List ℕ × List Theorem)). record c { facts = fs }) (e ∙ ap (λ (fs : List (List ℕ × List Theorem)). insert_entry name_eq fs x ths) o ∙ insert_new x ths c.facts n)
+
+pub answers_same : {A : Type 0} (r : Result A Kind) (wanted other : Result A Kind) → wanted ≡ other → Answers r other → Answers r wanted
+answers_same r wanted other e h = subst (λ w. Answers r w) (sym e) h

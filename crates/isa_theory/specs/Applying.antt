@@ -1,0 +1,245 @@
+-- What each command that stands outside of proofs does to the context, or its first refusal.
+-- Source: the Isabelle/Isar Reference Manual, chapter "Specifications" (`typedecl`, `judgment`, `consts`, `axiomatization`, `lemmas`,
+-- `declare`) and "Proofs" (`lemma`); which cause counts first is this project's own: the first in reading order, and last what is not built yet.
+use Rattle.std.specs.Prelude.{◌≡◌, ◌≢◌, ℕ, Bool, true, false, ◌||◌, if◌then◌else◌, List, [], ◌∷◌, ◌++◌, length, Option, Some, None, Result, Ok, Err, is_some, option_map}
+use Rattle.isa_terms.specs.Types.{Ty}
+use Rattle.isa_terms.specs.Terms.{Tm}
+use Rattle.isa_kernel.specs.Forms.{predicate_of}
+use Rattle.isa_kernel.specs.Theorem.{Theorem}
+use Rattle.isa_kernel.specs.Theories.{constant_type, type_refusal, constant_refusal, axiom_refusal, axiom_prop, axiom_theorem}
+use Rattle.isa_kernel.specs.declared.declarations.Declaration.{Declaration}
+use Rattle.isa_kernel.specs.declared.declarations.Declaration.TheVariants.{Constructor, Constant, Axiom}
+use Rattle.isa_kernel.specs.declared.declarations.TheoryFail.{TheoryFail}
+use Rattle.isa_kernel.specs.declared.declarations.TheoryFail.TheVariants as fail
+use Rattle.isa_outer.specs.declared.refusal.Kind.{Kind}
+use Rattle.isa_outer.specs.declared.refusal.Kind.TheVariants as kind
+use Rattle.isa_outer.specs.declared.refusal.Refused.{Refused}
+use Rattle.isa_outer.specs.declared.refusal.Sort.{Sort}
+use Rattle.isa_outer.specs.declared.refusal.Sort.TheVariants as sort
+use Rattle.isa_outer.specs.declared.command.Inner.{Inner}
+use Rattle.isa_outer.specs.declared.command.Constant.{Constant as NewConstant}
+use Rattle.isa_outer.specs.declared.command.Label.{Label}
+use Rattle.isa_outer.specs.declared.command.Axiom.{Axiom as NewAxiom}
+use Rattle.isa_outer.specs.declared.command.Declaration.{Declaration as Declared}
+use Rattle.isa_outer.specs.declared.command.Command.{Command}
+use Rattle.isa_outer.specs.declared.command.Command.TheVariants as command
+use Rattle.isa_texts.specs.declared.signature.Variables.TheVariants as variables
+use Rattle.isa_theory.specs.Contexts.{ContextSeen, fact_of, signature_of}
+use Rattle.isa_theory.specs.MethodFacts.{method_facts}
+use Rattle.isa_theory.specs.Reading.{read_type, read_prop}
+use Rattle.isa_theory.specs.Results.{◌>>=◌, or_refused}
+
+-- ---- what the theory refuses
+-- the refusal of a declaration of this sort; a text that is read names no undeclared constant
+abbrev pub kind_of : Sort → TheoryFail → Kind
+kind_of s (fail.Duplicate x) = kind.Duplicate s x
+kind_of s (fail.Unknown x) = kind.Unknown sort.Type x
+kind_of s (fail.Misfit x) = kind.Arity x
+kind_of s (fail.IllTyped fault) = kind.Types
+kind_of s (fail.NotProp T) = kind.Types
+kind_of s fail.Memory = kind.Memory
+
+-- the declaration stands last, if nothing refuses it
+abbrev pub declared : Sort → Declaration → Option TheoryFail → ContextSeen → Result ContextSeen Kind
+declared s d None c = Ok (record c { theory = c.theory ++ d ∷ [] })
+declared s d (Some fault) c = Err (kind_of s fault)
+
+-- what is not built yet is refused last
+abbrev pub unless_built : {A : Type 0} → Bool → A → Result A Kind
+unless_built unbuilt a = if unbuilt then Err kind.NotBuilt else Ok a
+
+-- a name of this sort that is new
+abbrev pub new_name : Sort → List ℕ → Bool → Result (Unit {0}) Kind
+new_name s x there = if there then Err (kind.Duplicate s x) else Ok tt
+
+abbrev pub is_some_list : {A : Type 0} → List A → Bool
+is_some_list [] = false
+is_some_list (a ∷ more) = true
+
+-- ---- types and constants
+unfoldable pub with_type : ContextSeen → List ℕ → ℕ → Result ContextSeen Kind
+with_type c x n = declared sort.Type (Constructor x n) (type_refusal c.theory x) c
+
+unfoldable pub with_constant : ContextSeen → List ℕ → Ty → Result ContextSeen Kind
+with_constant c x T = declared sort.Constant (Constant x T) (constant_refusal c.theory x T) c
+
+-- a constant of the type of a text
+unfoldable pub with_typed : ContextSeen → List ℕ → Inner → Result (Ty × ContextSeen) Kind
+with_typed c x text = do
+  T ← read_type text
+  d ← with_constant c x T
+  Ok (T, d)
+
+-- whether the name is that of a constant
+unfoldable pub new_constant : ContextSeen → List ℕ → Result (Unit {0}) Kind
+new_constant c x = new_name sort.Constant x (is_some (constant_type c.theory x))
+
+-- NAME :: TYPE
+unfoldable pub with_new_constant : ContextSeen → List ℕ → Inner → Result ContextSeen Kind
+with_new_constant c x text = do
+  u ← new_constant c x
+  p ← with_typed c x text
+  Ok p.1
+
+-- constants, one after the other
+abbrev pub with_constants : ContextSeen → List NewConstant → Result ContextSeen Kind
+with_constants c [] = Ok c
+with_constants c (k ∷ ks) = with_new_constant c k.name k.typ >>= (λ d. with_constants d ks)
+
+abbrev pub have_notation : List NewConstant → Bool
+have_notation [] = false
+have_notation (k ∷ ks) = is_some k.notation || have_notation ks
+
+unfoldable pub with_consts : ContextSeen → List NewConstant → Result ContextSeen Kind
+with_consts c ks = with_constants c ks >>= (λ d. unless_built (have_notation ks) d)
+
+-- The judgment comes once; it is a constant of a type `T => prop`.
+abbrev pub judged : List ℕ → Ty × ContextSeen → Option Ty → Result ContextSeen Kind
+judged x p None = Err kind.Types
+judged x p (Some T) = Ok (record p.1 { judgment = Some (record { name = x; typ = T }) })
+
+unfoldable pub with_judgment : ContextSeen → List ℕ → Inner → Result ContextSeen Kind
+with_judgment c x text = do
+  u ← new_constant c x
+  v ← new_name sort.Judgment x (is_some c.judgment)
+  p ← with_typed c x text
+  judged x p (predicate_of p.0)
+
+-- ---- facts
+-- the fact stands last
+abbrev pub with_fact : ContextSeen → List ℕ → List Theorem → ContextSeen
+with_fact c x ths = record c { facts = c.facts ++ (x, ths) ∷ [] }
+
+unfoldable pub new_fact : ContextSeen → List ℕ → Result (Unit {0}) Kind
+new_fact c x = new_name sort.Fact x (is_some (fact_of c x))
+
+unfoldable pub known_fact : ContextSeen → List ℕ → Result (List Theorem) Kind
+known_fact c x = or_refused (kind.Unknown sort.Fact x) (fact_of c x)
+
+-- the theorems of facts, in order
+abbrev pub known_facts : ContextSeen → List (List ℕ) → Result (List Theorem) Kind
+known_facts c [] = Ok []
+known_facts c (x ∷ xs) = do
+  ths ← known_fact c x
+  more ← known_facts c xs
+  Ok (ths ++ more)
+
+-- whether all of the facts are there
+abbrev pub all_known : ContextSeen → List (List ℕ) → Result (Unit {0}) Kind
+all_known c [] = Ok tt
+all_known c (x ∷ xs) = known_fact c x >>= (λ ths. all_known c xs)
+
+-- the theorem of a declared axiom
+unfoldable pub axiom_fact : ContextSeen → List ℕ → Result Theorem Kind
+axiom_fact c x = or_refused (kind.Unknown sort.Fact x) (option_map (axiom_theorem x) (axiom_prop c.theory x))
+
+-- NAME: PROP. The axiom is declared, and is a fact of a new name.
+unfoldable pub with_axiom : ContextSeen → List ℕ → Inner → Result ContextSeen Kind
+with_axiom c x text = do
+  u ← new_fact c x
+  p ← read_prop (signature_of c) variables.Unknown text
+  d ← declared sort.Fact (Axiom x p) (axiom_refusal c.theory x p) c
+  th ← axiom_fact d x
+  Ok (with_fact d x (th ∷ []))
+
+-- axioms, one after the other
+abbrev pub with_axioms : ContextSeen → List NewAxiom → Result ContextSeen Kind
+with_axioms c [] = Ok c
+with_axioms c (a ∷ more) = with_axiom c a.label.name a.prop >>= (λ d. with_axioms d more)
+
+abbrev pub have_attributes : List NewAxiom → Bool
+have_attributes [] = false
+have_attributes (a ∷ more) = is_some_list a.label.attributes || have_attributes more
+
+unfoldable pub with_axiomatization : ContextSeen → List NewAxiom → Result ContextSeen Kind
+with_axiomatization c axioms = with_axioms c axioms >>= (λ d. unless_built (have_attributes axioms) d)
+
+unfoldable pub with_lemmas : ContextSeen → Label → List (List ℕ) → Result ContextSeen Kind
+with_lemmas c label xs = do
+  u ← new_fact c label.name
+  ths ← known_facts c xs
+  unless_built (is_some_list label.attributes) (with_fact c label.name ths)
+
+-- facts whose attributes change; without attributes nothing changes
+abbrev pub declared_facts : List Declared → List (List ℕ)
+declared_facts [] = []
+declared_facts (d ∷ ds) = d.fact ∷ declared_facts ds
+
+abbrev pub are_declared : List Declared → Bool
+are_declared [] = false
+are_declared (d ∷ ds) = is_some_list d.attributes || are_declared ds
+
+unfoldable pub with_declarations : ContextSeen → List Declared → Result ContextSeen Kind
+with_declarations c ds = all_known c (declared_facts ds) >>= (λ u. unless_built (are_declared ds) c)
+
+-- the facts of its method are there
+unfoldable pub with_wrapper : ContextSeen → List (List ℕ) → Result ContextSeen Kind
+with_wrapper c xs = all_known c xs >>= (λ u. Err kind.NotBuilt)
+
+-- ---- lemmas
+abbrev pub label_name : Option Label → Option (List ℕ)
+label_name None = None
+label_name (Some label) = Some label.name
+
+abbrev pub new_label : ContextSeen → Option Label → Result (Unit {0}) Kind
+new_label c None = Ok tt
+new_label c (Some label) = new_fact c label.name
+
+abbrev pub has_attributes : Option Label → Bool
+has_attributes None = false
+has_attributes (Some label) = is_some_list label.attributes
+
+-- the proposition that a lemma of a new name is about
+unfoldable pub goal_of : ContextSeen → Option Label → Inner → Result Tm Kind
+goal_of c label text = do
+  u ← new_label c label
+  p ← read_prop (signature_of c) variables.Fixed text
+  unless_built (has_attributes label) p
+
+-- a lemma changes nothing until it is stored
+unfoldable pub with_goal : ContextSeen → Option Label → Inner → Result ContextSeen Kind
+with_goal c label text = goal_of c label text >>= (λ p. Ok c)
+
+-- ---- all commands
+-- The next context; the commands of a proof have none.
+unfoldable pub applied : ContextSeen → Command → Result ContextSeen Kind
+applied c (command.Typedecl line xs x) = with_type c x (length xs)
+applied c (command.Judgment line x text) = with_judgment c x text
+applied c (command.Consts line ks) = with_consts c ks
+applied c (command.Axiomatization line axioms) = with_axiomatization c axioms
+applied c (command.Lemma line label text) = with_goal c label text
+applied c (command.SchematicGoal line label text) = with_goal c label text
+applied c (command.Lemmas line label xs) = with_lemmas c label xs
+applied c (command.Declare line ds) = with_declarations c ds
+applied c (command.DeclareOption line setting) = Err kind.NotBuilt
+applied c (command.Wrapper line safe before x m) = with_wrapper c (method_facts m)
+applied c (command.Apply line m) = Err kind.NoProof
+applied c (command.By line m) = Err kind.NoProof
+applied c (command.Done line) = Err kind.NoProof
+applied c (command.Back line) = Err kind.NoProof
+applied c (command.Oops line) = Err kind.NoProof
+applied c (command.Print line count) = Err kind.NoProof
+
+-- the line of a command's first word
+abbrev pub line_of : Command → ℕ
+line_of (command.Typedecl line xs x) = line
+line_of (command.Judgment line x text) = line
+line_of (command.Consts line ks) = line
+line_of (command.Axiomatization line axioms) = line
+line_of (command.Lemma line label text) = line
+line_of (command.SchematicGoal line label text) = line
+line_of (command.Lemmas line label xs) = line
+line_of (command.Declare line ds) = line
+line_of (command.DeclareOption line setting) = line
+line_of (command.Wrapper line safe before x m) = line
+line_of (command.Apply line m) = line
+line_of (command.By line m) = line
+line_of (command.Done line) = line
+line_of (command.Back line) = line
+line_of (command.Oops line) = line
+line_of (command.Print line count) = line
+
+-- The context that is left is the next one. A refusal, want of memory aside, is the first one, at the command's line, and leaves the context as it was.
+abbrev pub Applies : Command → ContextSeen → Result (Unit {0}) Refused → ContextSeen → Type 0
+Applies command old (Ok done) new = applied old command ≡ Ok new
+Applies command old (Err refused) new = (new ≡ old) × (refused.kind ≢ kind.Memory → (refused.line ≡ line_of command) × (applied old command ≡ Err refused.kind))

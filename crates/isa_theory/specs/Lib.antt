@@ -1,0 +1,7 @@
+pub mod Results
+pub mod Contexts
+pub mod Reading
+pub mod MethodFacts
+pub mod Applying
+pub mod Storing
+pub mod Private

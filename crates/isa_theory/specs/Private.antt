@@ -1,0 +1,2 @@
+-- What the contracts of private functions cite. A reader need not believe it.
+pub mod Growing

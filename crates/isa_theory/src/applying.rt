@@ -1,0 +1,280 @@
+//! What each command does to the context.
+ghost use Rattle.std.specs.Prelude.{◌≡◌, Ok};
+ghost use Rattle.std.specs.Option.{option_copied};
+ghost use Rattle.isa_theory.specs.Applying.{all_known, with_new_constant, with_constants, have_notation, with_consts, with_judgment, with_axioms, have_attributes, with_axiomatization, with_lemmas, declared_facts, are_declared, with_declarations, with_wrapper, new_label, has_attributes, goal_of, with_goal, applied, line_of, Applies, is_some_list};
+ghost use Rattle.isa_theory.specs.MethodFacts.{method_facts};
+ghost use Rattle.isa_theory.specs.Private.Growing.{Grows, GrowsIfRefused, Becomes};
+ghost use Rattle.isa_theory.specs.Results.{Answers};
+
+use crate::context::Context;
+use crate::kinds::{built, new_name};
+use isa_kernel::prop_type;
+use isa_outer::{
+    Attributes, Axiom, Command, Constant, Declaration, Inner, Kind, Label, Method, Refused, Sort,
+};
+use isa_terms::{Name, Names, Term, same_typ, split_function};
+use isa_texts::{Judgment, Variables};
+use std::alloc::Global;
+
+/// Whether there are attributes.
+fn are_some(attributes: &Attributes) -> bool
+    ensures { result ≡ is_some_list attributes.now }
+{
+    !attributes.as_slice().is_empty()
+}
+
+/// Whether one of the constants has a notation.
+fn have_notation(constants: &[Constant]) -> bool
+    ensures { result ≡ have_notation constants.now }
+{
+    for constant in constants {
+        if constant.notation.is_some() {
+            return true;
+        }
+    }
+    false
+}
+
+/// Whether one of the axioms has attributes.
+fn have_attributes(axioms: &[Axiom]) -> bool
+    ensures { result ≡ have_attributes axioms.now }
+{
+    for axiom in axioms {
+        if are_some(&axiom.label.attributes) {
+            return true;
+        }
+    }
+    false
+}
+
+/// Whether one of the facts is declared with attributes.
+fn are_declared(declarations: &[Declaration]) -> bool
+    ensures { result ≡ are_declared declarations.now }
+{
+    for declaration in declarations {
+        if are_some(&declaration.attributes) {
+            return true;
+        }
+    }
+    false
+}
+
+/// Whether a lemma has attributes.
+fn has_attributes(label: Option<&Label>) -> bool
+    ensures { result ≡ has_attributes (option_copied label.entry) }
+{
+    match label {
+        Some(label) => are_some(&label.attributes),
+        None => false,
+    }
+}
+
+impl Context {
+    #[tactic(auto, unfolding(crate::specs::Applying::with_new_constant))]
+    fn declare_new_constant(&mut self, alloc: Global, name: &Name, text: &Inner) -> Result<(), Kind>
+        ensures becomes { Becomes result self.new (with_new_constant self.old name.now text.now) }
+        ensures grows { Grows self.old self.new }
+    {
+        self.new_constant(name)?;
+        self.declare_typed(alloc, name, text)?;
+        Ok(())
+    }
+
+    fn declare_constants(&mut self, alloc: Global, constants: &[Constant]) -> Result<(), Kind>
+        ensures becomes { Becomes result self.new (with_constants self.old constants.now) }
+        ensures grows { Grows self.old self.new }
+    {
+        for constant in constants {
+            self.declare_new_constant(alloc, &constant.name, &constant.typ)?;
+        }
+        Ok(())
+    }
+
+    #[tactic(auto, unfolding(crate::specs::Applying::with_consts))]
+    fn declare_consts(&mut self, alloc: Global, constants: &[Constant]) -> Result<(), Kind>
+        ensures becomes { Becomes result self.new (with_consts self.old constants.now) }
+        ensures grows { Grows self.old self.new }
+    {
+        self.declare_constants(alloc, constants)?;
+        built(have_notation(constants))
+    }
+
+    /// The judgment comes once, and its type is `T => prop`.
+    #[tactic(auto, unfolding(crate::specs::Applying::with_judgment))]
+    fn declare_judgment(&mut self, alloc: Global, name: &Name, text: &Inner) -> Result<(), Kind>
+        ensures becomes { Becomes result self.new (with_judgment self.old name.now text.now) }
+        ensures grows { GrowsIfRefused result self.old self.new }
+    {
+        self.new_constant(name)?;
+        new_name(Sort::Judgment, name, self.judgment().is_some())?;
+        let typ = self.declare_typed(alloc, name, text)?;
+        let Some((domain, range)) = split_function(&typ) else {
+            return Err(Kind::Types);
+        };
+        if !same_typ(range, &prop_type(alloc)?) {
+            return Err(Kind::Types);
+        }
+        self.set_judgment(Judgment {
+            name: name.copy()?,
+            typ: domain.copy()?,
+        });
+        Ok(())
+    }
+
+    fn add_axioms(&mut self, alloc: Global, axioms: &[Axiom]) -> Result<(), Kind>
+        ensures becomes { Becomes result self.new (with_axioms self.old axioms.now) }
+        ensures grows { Grows self.old self.new }
+    {
+        for axiom in axioms {
+            self.add_axiom(alloc, &axiom.label.name, &axiom.prop)?;
+        }
+        Ok(())
+    }
+
+    #[tactic(auto, unfolding(crate::specs::Applying::with_axiomatization))]
+    fn axiomatize(&mut self, alloc: Global, axioms: &[Axiom]) -> Result<(), Kind>
+        ensures becomes { Becomes result self.new (with_axiomatization self.old axioms.now) }
+        ensures grows { Grows self.old self.new }
+    {
+        self.add_axioms(alloc, axioms)?;
+        built(have_attributes(axioms))
+    }
+
+    #[tactic(auto, unfolding(crate::specs::Applying::with_lemmas))]
+    fn name_facts(&mut self, alloc: Global, label: &Label, facts: &Names) -> Result<(), Kind>
+        ensures becomes { Becomes result self.new (with_lemmas self.old label.now facts.now) }
+        ensures grows { Grows self.old self.new }
+    {
+        self.new_fact(&label.name)?;
+        let thms = self.known_facts(alloc, facts.as_slice())?;
+        built(are_some(&label.attributes))?;
+        self.push_fact(label.name.copy()?, thms)?;
+        Ok(())
+    }
+
+    fn check_declared(&self, declarations: &[Declaration]) -> Result<(), Kind>
+        ensures { Answers result (all_known self.now (declared_facts declarations.now)) }
+    {
+        for declaration in declarations {
+            self.known_fact(&declaration.fact)?;
+        }
+        Ok(())
+    }
+
+    #[tactic(auto, unfolding(crate::specs::Applying::with_declarations))]
+    fn declare_facts(&self, declarations: &[Declaration]) -> Result<(), Kind>
+        ensures { Becomes result self.now (with_declarations self.now declarations.now) }
+    {
+        self.check_declared(declarations)?;
+        built(are_declared(declarations))
+    }
+
+    #[tactic(auto, unfolding(crate::specs::Applying::with_wrapper))]
+    fn declare_wrapper(&self, method: &Method) -> Result<(), Kind>
+        ensures { Becomes result self.now (with_wrapper self.now (method_facts method.now)) }
+    {
+        self.check_method(method)?;
+        Err(Kind::NotBuilt)
+    }
+
+    fn new_label(&self, label: Option<&Label>) -> Result<(), Kind>
+        ensures { Answers result (new_label self.now (option_copied label.entry)) }
+    {
+        match label {
+            Some(label) => self.new_fact(&label.name),
+            None => Ok(()),
+        }
+    }
+
+    /// The proposition that a lemma of a new name is about.
+    #[tactic(auto, unfolding(crate::specs::Applying::goal_of))]
+    pub fn goal(&self, alloc: Global, label: Option<&Label>, text: &Inner) -> Result<Term, Kind>
+        ensures { Answers result (goal_of self.now (option_copied label.entry) text.now) }
+    {
+        self.new_label(label)?;
+        let prop = self.read_prop(alloc, Variables::Fixed, text)?;
+        built(has_attributes(label))?;
+        Ok(prop)
+    }
+
+    #[tactic(auto, unfolding(crate::specs::Applying::with_goal))]
+    fn check_goal(&self, alloc: Global, label: Option<&Label>, text: &Inner) -> Result<(), Kind>
+        ensures { Becomes result self.now (with_goal self.now (option_copied label.entry) text.now) }
+    {
+        self.goal(alloc, label, text)?;
+        Ok(())
+    }
+
+    /// What the command does, or a part of it where it is refused.
+    #[tactic(auto, unfolding(crate::specs::Applying::applied))]
+    fn take(&mut self, alloc: Global, command: &Command) -> Result<(), Kind>
+        ensures becomes { Becomes result self.new (applied self.old command.now) }
+        ensures grows { GrowsIfRefused result self.old self.new }
+    {
+        match command {
+            Command::Typedecl {
+                variables,
+                name,
+                ..
+            } => self.declare_type(alloc, name, variables.len()),
+            Command::Judgment { name, typ, .. } => self.declare_judgment(alloc, name, typ),
+            Command::Consts { constants, .. } => self.declare_consts(alloc, constants.as_slice()),
+            Command::Axiomatization { axioms, .. } => self.axiomatize(alloc, axioms.as_slice()),
+            Command::Lemma { label, prop, .. } | Command::SchematicGoal { label, prop, .. } => {
+                self.check_goal(alloc, label.as_ref(), prop)
+            }
+            Command::Lemmas { label, facts, .. } => self.name_facts(alloc, label, facts),
+            Command::Declare { declarations, .. } => self.declare_facts(declarations.as_slice()),
+            Command::DeclareOption { .. } => Err(Kind::NotBuilt),
+            Command::Wrapper { method, .. } => self.declare_wrapper(method),
+            Command::Apply { .. }
+            | Command::By { .. }
+            | Command::Done { .. }
+            | Command::Back { .. }
+            | Command::Oops { .. }
+            | Command::Print { .. } => Err(Kind::NoProof),
+        }
+    }
+
+    /// Takes a command that stands outside of proofs. The context is as it was after a refusal; a lemma
+    /// changes nothing until it is stored.
+    pub fn apply(&mut self, alloc: Global, command: &Command) -> Result<(), Refused>
+        ensures { Applies command.now self.old result self.new }
+    {
+        let mark = self.mark();
+        match self.take(alloc, command) {
+            Ok(()) => Ok(()),
+            Err(kind) => {
+                self.undo_to(mark);
+                Err(Refused {
+                    line: line_of(command),
+                    kind,
+                })
+            }
+        }
+    }
+}
+
+/// The line of a command's first word.
+pub fn line_of(command: &Command) -> u64
+    ensures { result ≡ line_of command.now }
+{
+    match command {
+        Command::Typedecl { line, .. }
+        | Command::Judgment { line, .. }
+        | Command::Consts { line, .. }
+        | Command::Axiomatization { line, .. }
+        | Command::Lemma { line, .. }
+        | Command::SchematicGoal { line, .. }
+        | Command::Lemmas { line, .. }
+        | Command::Declare { line, .. }
+        | Command::DeclareOption { line, .. }
+        | Command::Wrapper { line, .. }
+        | Command::Apply { line, .. }
+        | Command::By { line, .. }
+        | Command::Done { line, .. }
+        | Command::Back { line, .. }
+        | Command::Oops { line, .. }
+        | Command::Print { line, .. } => *line,
+    }
+}

@@ -1,0 +1,287 @@
+//! What the commands so far declared and proved.
+ghost use Rattle.std.specs.Prelude.{◌≡◌, ◌≤◌, ◌++◌, length, take, Some, None, IfOk, OnOk, OnErr};
+ghost use Rattle.std.specs.Option.{option_copied};
+ghost use Rattle.isa_texts.specs.Signatures.{seen};
+ghost use Rattle.isa_kernel.specs.Theories.{axiom_prop, axiom_refusal};
+ghost use Rattle.isa_kernel.specs.declared.declarations.Declaration.TheVariants.{Axiom};
+ghost use Rattle.isa_outer.specs.declared.refusal.Sort.TheVariants as sort;
+ghost use Rattle.isa_theory.specs.Contexts.{empty_context, fact_of, judgment_name, signature_of};
+ghost use Rattle.isa_theory.specs.Applying.{all_known, new_constant, known_fact, known_facts, new_fact, with_type, with_constant, with_typed, with_fact, declared, axiom_fact, with_axiom};
+ghost use Rattle.isa_theory.specs.Private.Growing.{Grows, Becomes, BecomesWith};
+ghost use Rattle.isa_theory.specs.Reading.{read_prop};
+ghost use Rattle.isa_theory.specs.Results.{Answers, AnswersBy};
+
+use crate::kinds::{kind_of, new_name};
+use crate::reading::{read_prop, read_type};
+use indexmap::IndexMap;
+use isa_kernel::{AxiomFail, Theory, Thm, Thms, axiom};
+use isa_outer::{Inner, Kind, Sort};
+use isa_terms::{Name, Term, Typ};
+use isa_texts::{Judgment, Signature, Variables};
+use std::alloc::{AllocError, Global};
+use std::marker::Model;
+
+/// What is declared and proved. A fact is a list of theorems under a name.
+#[derive(Drop)]
+pub struct Context {
+    theory: Theory,
+    judgment: Option<Judgment>,
+    facts: IndexMap<Name, Thms>,
+}
+
+impl Model for Context {
+    ghost use Rattle.isa_theory.specs.Contexts.{ContextSeen, context_code};
+
+    ghost Value = { ContextSeen };
+
+    ghost coded = { context_code };
+
+    ghost view = { λ c. record { theory = c.theory; judgment = c.judgment; facts = c.facts.entries } };
+}
+
+impl Context {
+    /// The context in which nothing is declared yet.
+    pub fn new(alloc: Global) -> Result<Context, AllocError>
+        ensures { IfOk result (λ c. c ≡ empty_context) }
+    {
+        Ok(Context {
+            theory: Theory::new(alloc)?,
+            judgment: None,
+            facts: IndexMap::new(alloc),
+        })
+    }
+
+    /// The declared types, constants and axioms.
+    pub fn theory(&self) -> &Theory
+        ensures { result.now ≡ self.now.theory }
+    {
+        &self.theory
+    }
+
+    /// The judgment, where it is declared.
+    pub fn judgment(&self) -> Option<&Judgment>
+        ensures { option_copied result ≡ self.now.judgment }
+    {
+        self.judgment.as_ref()
+    }
+
+    /// The theorems of the fact of that name.
+    pub fn fact(&self, name: &Name) -> Option<&Thms>
+        ensures { option_copied result ≡ fact_of self.now name.now }
+    {
+        self.facts.get(name)
+    }
+
+    /// The name of the judgment, the empty one where none is declared.
+    pub fn judgment_name(&self, alloc: Global) -> Result<Name, AllocError>
+        ensures { IfOk result (λ name. name ≡ judgment_name self.now.judgment) }
+    {
+        match &self.judgment {
+            Some(judgment) => judgment.name.copy(),
+            None => Ok(Name::new(alloc)),
+        }
+    }
+
+    /// What texts are read over.
+    fn signature(&self) -> Signature<'_>
+        ensures { seen result ≡ signature_of self.now }
+    {
+        Signature {
+            theory: &self.theory,
+            judgment: self.judgment.as_ref(),
+        }
+    }
+
+    /// The proposition of a text.
+    pub(crate) fn read_prop(
+        &self,
+        alloc: Global,
+        variables: Variables,
+        text: &Inner,
+    ) -> Result<Term, Kind>
+        ensures { Answers result (read_prop (signature_of self.now) variables text.now) }
+    {
+        read_prop(alloc, &self.signature(), variables, text)
+    }
+
+    /// Refuses the name of a fact that is there.
+    #[tactic(auto, unfolding(crate::specs::Applying::new_fact))]
+    pub(crate) fn new_fact(&self, name: &Name) -> Result<(), Kind>
+        ensures { Answers result (new_fact self.now name.now) }
+    {
+        new_name(Sort::Fact, name, self.fact(name).is_some())
+    }
+
+    /// Refuses the name of a constant that is there.
+    #[tactic(auto, unfolding(crate::specs::Applying::new_constant))]
+    pub(crate) fn new_constant(&self, name: &Name) -> Result<(), Kind>
+        ensures { Answers result (new_constant self.now name.now) }
+    {
+        new_name(Sort::Constant, name, self.theory.constant(name).is_some())
+    }
+
+    /// The theorems of the fact of that name, which must be there.
+    #[tactic(auto, unfolding(crate::specs::Applying::known_fact))]
+    pub(crate) fn known_fact(&self, name: &Name) -> Result<&Thms, Kind>
+        ensures { AnswersBy (λ ths. ths.now) result (known_fact self.now name.now) }
+    {
+        match self.fact(name) {
+            Some(thms) => Ok(thms),
+            None => Err(Kind::Unknown(Sort::Fact, name.copy()?)),
+        }
+    }
+
+    /// Refuses the first of the facts that is not there.
+    pub(crate) fn check_facts(&self, facts: &[Name]) -> Result<(), Kind>
+        ensures { Answers result (all_known self.now facts.now) }
+    {
+        for fact in facts {
+            self.known_fact(fact)?;
+        }
+        Ok(())
+    }
+
+    /// The theorems of facts, in order.
+    pub fn known_facts(&self, alloc: Global, facts: &[Name]) -> Result<Thms, Kind>
+        ensures { Answers result (known_facts self.now facts.now) }
+    {
+        let mut all = Thms::new(alloc);
+        for fact in facts {
+            push_all(alloc, &mut all, self.known_fact(fact)?)?;
+        }
+        Ok(all)
+    }
+
+    /// Declares a type constructor with that number of arguments.
+    #[tactic(auto, unfolding(crate::specs::Applying::with_type))]
+    pub(crate) fn declare_type(
+        &mut self,
+        alloc: Global,
+        name: &Name,
+        arity: usize,
+    ) -> Result<(), Kind>
+        ensures becomes { Becomes result self.new (with_type self.old name.now arity) }
+        ensures grows { Grows self.old self.new }
+    {
+        // Memory holds no such list of arguments.
+        let Ok(arity) = u32::try_from(arity) else {
+            return Err(Kind::Memory);
+        };
+        match self.theory.declare_type(alloc, name, arity) {
+            Ok(()) => Ok(()),
+            Err(fail) => Err(kind_of(Sort::Type, fail)),
+        }
+    }
+
+    #[tactic(auto, unfolding(crate::specs::Applying::with_constant))]
+    fn declare_constant(&mut self, alloc: Global, name: &Name, typ: &Typ) -> Result<(), Kind>
+        ensures becomes { Becomes result self.new (with_constant self.old name.now typ.now) }
+        ensures grows { Grows self.old self.new }
+    {
+        match self.theory.declare_const(alloc, name, typ) {
+            Ok(()) => Ok(()),
+            Err(fail) => Err(kind_of(Sort::Constant, fail)),
+        }
+    }
+
+    /// Declares a constant of the type of a text.
+    #[tactic(auto, unfolding(crate::specs::Applying::with_typed))]
+    pub(crate) fn declare_typed(
+        &mut self,
+        alloc: Global,
+        name: &Name,
+        text: &Inner,
+    ) -> Result<Typ, Kind>
+        ensures becomes { BecomesWith result self.new (with_typed self.old name.now text.now) }
+        ensures grows { Grows self.old self.new }
+    {
+        let typ = read_type(alloc, text)?;
+        self.declare_constant(alloc, name, &typ)?;
+        Ok(typ)
+    }
+
+    /// Puts the judgment in force.
+    pub(crate) fn set_judgment(&mut self, judgment: Judgment)
+        ensures { self.new ≡ record self.old { judgment = Some judgment } }
+    {
+        self.judgment = Some(judgment);
+    }
+
+    fn declare_axiom(&mut self, alloc: Global, name: &Name, prop: &Term) -> Result<(), Kind>
+        ensures becomes { Becomes result self.new (declared sort.Fact (Axiom name.now prop.now) (axiom_refusal self.old.theory name.now prop.now) self.old) }
+        ensures grows { Grows self.old self.new }
+        ensures facts { self.new.facts ≡ self.old.facts }
+    {
+        match self.theory.add_axiom(alloc, name, prop) {
+            Ok(()) => Ok(()),
+            Err(fail) => Err(kind_of(Sort::Fact, fail)),
+        }
+    }
+
+    /// The theorem that a declared axiom is.
+    #[tactic(auto, unfolding(crate::specs::Applying::axiom_fact))]
+    fn axiom(&self, alloc: Global, name: &Name) -> Result<Thm, Kind>
+        ensures { Answers result (axiom_fact self.now name.now) }
+    {
+        match axiom(alloc, &self.theory, name) {
+            Ok(thm) => Ok(thm),
+            Err(AxiomFail::UnknownAxiom(name)) => Err(Kind::Unknown(Sort::Fact, name)),
+            Err(AxiomFail::Memory) => Err(Kind::Memory),
+        }
+    }
+
+    /// Puts a fact of a new name last.
+    pub(crate) fn push_fact(&mut self, name: Name, thms: Thms) -> Result<(), AllocError>
+        requires new { fact_of self.old name ≡ None }
+        ensures ok { OnOk result (self.new ≡ with_fact self.old name thms) }
+        ensures err { OnErr result (self.new ≡ self.old) }
+    {
+        match self.facts.insert(name, thms) {
+            Ok(_) => Ok(()),
+            Err(_) => Err(AllocError),
+        }
+    }
+
+    /// Adds an axiom by its text.
+    #[tactic(auto, unfolding(crate::specs::Applying::with_axiom))]
+    pub(crate) fn add_axiom(&mut self, alloc: Global, name: &Name, text: &Inner) -> Result<(), Kind>
+        ensures becomes { Becomes result self.new (with_axiom self.old name.now text.now) }
+        ensures grows { Grows self.old self.new }
+    {
+        self.new_fact(name)?;
+        let prop = self.read_prop(alloc, Variables::Unknown, text)?;
+        self.declare_axiom(alloc, name, &prop)?;
+        let mut thms = Thms::new(alloc);
+        thms.push(self.axiom(alloc, name)?)?;
+        self.push_fact(name.copy()?, thms)?;
+        Ok(())
+    }
+
+    /// How many declarations and facts there are.
+    pub(crate) fn mark(&self) -> (usize, usize)
+        ensures theory { result.0 ≡ length self.now.theory }
+        ensures facts { result.1 ≡ length self.now.facts }
+    {
+        (self.theory.mark(), self.facts.len())
+    }
+
+    /// Takes out the declarations and facts behind the first ones.
+    pub(crate) fn undo_to(&mut self, mark: (usize, usize))
+        requires theory { mark.0 ≤ length self.old.theory }
+        requires facts { mark.1 ≤ length self.old.facts }
+        ensures { self.new ≡ record self.old { theory = take mark.0 self.old.theory; facts = take mark.1 self.old.facts } }
+    {
+        self.theory.undo_to(mark.0);
+        self.facts.truncate(mark.1);
+    }
+}
+
+/// Puts theorems behind others.
+fn push_all(alloc: Global, all: &mut Thms, more: &Thms) -> Result<(), AllocError>
+    ensures { OnOk result (all.new ≡ all.old ++ more.now) }
+{
+    for thm in more.as_slice() {
+        all.push(thm.copy(alloc)?)?;
+    }
+    Ok(())
+}
