@@ -1,4 +1,5 @@
 pub mod Refusals
+pub mod Signatures
 pub mod Signature
 pub mod Parts
 pub mod Reading
