@@ -101,7 +101,7 @@ cut_symbol signs b text words e f (inr (inl i)) = absurd cc
 cut_symbol signs b text words e f (inr (inr (inl i))) = absurd (no_first (i.0, i.1) (first_word signs (b ∷ text)) i.4 f)
 cut_symbol signs b text words e f (inr (inr (inr i))) = sym i.5
 
-cut_once : (signs : Signs) (text : List ℕ) (words : List Word) → Cuts signs text words → (others : List Word) → Cuts signs text others → words ≡ others
+pub cut_once : (signs : Signs) (text : List ℕ) (words : List Word) → Cuts signs text words → (others : List Word) → Cuts signs text others → words ≡ others
 cut_once signs _ _ Nothing others s = cut_nothing signs others (invert_cut signs [] others s)
 cut_once signs _ _ (Blank b text ws e r) others s = cut_once signs text ws r others (cut_blank signs b text others e (invert_cut signs (b ∷ text) others s))
 cut_once signs _ _ (First text n w ws b e r) others s =

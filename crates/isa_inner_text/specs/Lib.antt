@@ -4,4 +4,5 @@ pub mod Signature
 pub mod Parts
 pub mod Reading
 pub mod Texts
+pub mod Grammar
 pub mod Private

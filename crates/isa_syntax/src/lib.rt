@@ -8,6 +8,6 @@ mod reading;
 mod refusal;
 mod syntax;
 
-pub use laws::{told_props_are_typed, undoing_takes_back};
+pub use laws::{texts_tell_one_thing, told_props_are_typed, undoing_takes_back};
 pub use reading::{read_prop, read_type};
 pub use syntax::{Mark, Syntax};

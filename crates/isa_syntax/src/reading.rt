@@ -30,12 +30,7 @@ fn principal(alloc: Global, syntax: &Syntax, raw: RawTerm) -> Result<Term, Kind>
 
 /// The proposition that a text tells: the principal term of what is read, in normal form; unknowns may stand in the text
 /// where it is schematic. Otherwise the first cause in reading order for which the text is refused, `Types` behind all others.
-pub fn read_prop(
-    alloc: Global,
-    syntax: &Syntax,
-    schematic: bool,
-    text: &[u8],
-) -> Result<Term, Kind>
+pub fn read_prop(alloc: Global, syntax: &Syntax, schematic: bool, text: &[u8]) -> Result<Term, Kind>
     ensures { Answers (TellsProp syntax.now schematic text.now) result }
 {
     match read_raw(alloc, syntax.signature(), schematic, text) {

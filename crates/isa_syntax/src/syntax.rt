@@ -188,7 +188,8 @@ impl Syntax {
     pub fn undo_to(&mut self, mark: Mark)
         ensures { self.new ≡ undone mark self.old }
     {
-        self.signature.cut(mark.types, mark.signs, mark.notated, mark.has_judgment);
+        self.signature
+            .cut(mark.types, mark.signs, mark.notated, mark.has_judgment);
         self.constants.truncate(mark.constants);
     }
 }
