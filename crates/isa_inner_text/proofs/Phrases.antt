@@ -18,7 +18,7 @@ use Rattle.isa_inner_types.proofs.TypePhrases.{reads_types}
 use Rattle.isa_raw.specs.RawTerms.{Raw, RawName, RawUnknown, RawConst, RawApp}
 use Rattle.isa_inner_text.specs.Signatures.{SignatureSeen}
 use Rattle.isa_inner_text.specs.declared.refusal.Refusal.TheVariants as refusal
-use Rattle.isa_inner_text.specs.declared.refusal.Expected.TheVariants as expected
+use Rattle.isa_inner_text.specs.declared.refusal.Expected.TheVariants as need
 use Rattle.isa_inner_text.specs.declared.part.Part.{Part}
 use Rattle.isa_inner_text.specs.declared.part.Variable.{Variable}
 use Rattle.isa_inner_text.specs.Parts.{closed, parenthesised, applied, annotated, joined, prefixed, bound, bracketed, judged, under, implied}
@@ -205,7 +205,7 @@ module _ (sig : SignatureSeen) where
   behind_means : (d m : ℕ) (left : Part) (ts : List TextToken) (q : Part) (rest : List TextToken) → MeansStep Means (step sig (Behind d m left) ts) (Read q rest) → (start : List TextToken) → m ≤ left.priority → Stands start left ts → Phrase sig m start q.term q.is_proposition rest
   behind_means d m left ts q rest g start n l = choice (is_met ts) (goes_on m left ts) refl g
     where
-      choice : (met b : Bool) → goes_on m left ts ≡ b → MeansStep Means (cond met (refuse expected.EndOfText ts) (cond b (further sig d m left ts) (Ends (Read left ts)))) (Read q rest) → Phrase sig m start q.term q.is_proposition rest
+      choice : (met b : Bool) → goes_on m left ts ≡ b → MeansStep Means (cond met (refuse need.EndOfText ts) (cond b (further sig d m left ts) (Ends (Read left ts)))) (Read q rest) → Phrase sig m start q.term q.is_proposition rest
       choice true b e g = absurd cc
       choice false true e g = further_means d m left ts start q rest e l g
       choice false false e g =

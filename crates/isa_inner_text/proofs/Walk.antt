@@ -12,7 +12,7 @@ use Rattle.isa_inner_types.specs.declared.token.TypeRefusal.{TypeRefusal}
 use Rattle.isa_inner_types.specs.TypeReading as types
 use Rattle.isa_inner_text.specs.Signatures.{SignatureSeen}
 use Rattle.isa_inner_text.specs.declared.part.Part.{Part}
-use Rattle.isa_inner_text.specs.declared.refusal.Expected.TheVariants as expected
+use Rattle.isa_inner_text.specs.declared.refusal.Expected.TheVariants as need
 use Rattle.isa_inner_text.specs.Reading.{Outcome, Read, Refused, Place, Step, Ends, Goes, Inside, InType, and_then, refuse, starts, mark_at, is_this, behind_first, expect, expect_name, expect_arrow, type_why, step, Runs, ends, goes, inside, typed, untyped}
 
 abbrev pub Meaning : Type 1
@@ -99,7 +99,7 @@ starts_mark m (token.Refused n ∷ ts) e = absurd cc
 pub expected : (M : Meaning) → (m : Mark) (ts : List TextToken) (go : List TextToken → Step) (q : Part) (rest : List TextToken) → MeansStep M (expect m ts go) (Read q rest) → (ts ≡ mark_token m ∷ behind_first ts) × MeansStep M (go (behind_first ts)) (Read q rest)
 expected M m ts go q rest g = choice (starts m ts) refl g
   where
-    choice : (b : Bool) → starts m ts ≡ b → MeansStep M (cond b (go (behind_first ts)) (refuse (expected.Mark m) ts)) (Read q rest) → (ts ≡ mark_token m ∷ behind_first ts) × MeansStep M (go (behind_first ts)) (Read q rest)
+    choice : (b : Bool) → starts m ts ≡ b → MeansStep M (cond b (go (behind_first ts)) (refuse (need.Mark m) ts)) (Read q rest) → (ts ≡ mark_token m ∷ behind_first ts) × MeansStep M (go (behind_first ts)) (Read q rest)
     choice true e g = (starts_mark m ts e, g)
     choice false e g = absurd cc
 
