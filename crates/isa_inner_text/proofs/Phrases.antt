@@ -157,8 +157,8 @@ module _ (sig : SignatureSeen) where
   infix_means d m left s ts start q rest e l g =
       let a : Phrase sig (infix_left s) start left.term left.is_proposition (token.Other (term.Infix s) ∷ ts) = l.phrase (infix_left s) (le_of (infix_left s) left.priority (and_right (nat_le m (infix_own s)) (nat_le (infix_left s) left.priority) e)) in
       let c = completed (infix_operands s) (infix_left s) start (token.Other (term.Infix s) ∷ ts) left
-          (λ l. unless_deep (d + l.height) (Inside (Operand (d + 1) (infix_operands s) (infix_right s)) ts (and_then (λ p later. complete sig (infix_operands s) p (λ r. Goes (Behind d m (joined sig s l r)) later)))))
-          q rest (due_infix s) a g in
+      (λ l. unless_deep (d + l.height) (Inside (Operand (d + 1) (infix_operands s) (infix_right s)) ts (and_then (λ p later. complete sig (infix_operands s) p (λ r. Goes (Behind d m (joined sig s l r)) later)))))
+      q rest (due_infix s) a g in
       choice c.part c.due (nat_lt (d + c.part.height) limit) c.goes_on_so
     where
       choice : (l : Part) → Due sig (infix_operands s) (infix_left s) start l.term (token.Other (term.Infix s) ∷ ts) → (b : Bool)
@@ -254,12 +254,11 @@ module _ (sig : SignatureSeen) where
       let t = completed (binder_body s) (binder_own s) ts c.later c.part (λ t. Ends (Read (bound sig s vs h t) c.later)) q rest (due_body s) c.reads c.goes_on_so in
       let e : Read q rest ≡ Read (bound sig s vs h t.part) c.later = t.goes_on_so in
       let same : q ≡ bound sig s vs h t.part = cc in
-      let rests : rest ≡ c.later = cc in
-      (
+      let rests : rest ≡ c.later = cc in (
         ap (λ (p : Part). p.priority) same,
         subst (λ (p : Part). Stands (token.Other (term.Binder s) ∷ start) p rest) (sym same)
-        (subst (λ (l : List TextToken). Stands (token.Other (term.Binder s) ∷ start) (bound sig s vs h t.part) l) (sym rests)
-        (stands_plain (token.Other (term.Binder s) ∷ start) c.later (bound sig s vs h t.part) refl (λ n k. Bound n s vs t.part.term start ts c.later k b t.due))),
+            (subst (λ (l : List TextToken). Stands (token.Other (term.Binder s) ∷ start) (bound sig s vs h t.part) l) (sym rests)
+            (stands_plain (token.Other (term.Binder s) ∷ start) c.later (bound sig s vs h t.part) refl (λ n k. Bound n s vs t.part.term start ts c.later k b t.due))),
       )
 
   -- variables that end in one are at least one
@@ -301,12 +300,11 @@ module _ (sig : SignatureSeen) where
       let t = completed wanted.Proposition 1 ts c.later c.part (λ t. Ends (Read (bracketed sig ps h t) c.later)) q rest PropositionIsDue c.reads c.goes_on_so in
       let e : Read q rest ≡ Read (bracketed sig ps h t.part) c.later = t.goes_on_so in
       let same : q ≡ bracketed sig ps h t.part = cc in
-      let rests : rest ≡ c.later = cc in
-      (
+      let rests : rest ≡ c.later = cc in (
         ap (λ (p : Part). p.priority) same,
         subst (λ (p : Part). Stands (token.Other term.OpenPremises ∷ start) p rest) (sym same)
-        (subst (λ (l : List TextToken). Stands (token.Other term.OpenPremises ∷ start) (bracketed sig ps h t.part) l) (sym rests)
-        (stands_plain (token.Other term.OpenPremises ∷ start) c.later (bracketed sig ps h t.part) refl (λ n k. Bracketed n ps t.part.term start ts c.later k b t.due))),
+            (subst (λ (l : List TextToken). Stands (token.Other term.OpenPremises ∷ start) (bracketed sig ps h t.part) l) (sym rests)
+            (stands_plain (token.Other term.OpenPremises ∷ start) c.later (bracketed sig ps h t.part) refl (λ n k. Bracketed n ps t.part.term start ts c.later k b t.due))),
       )
 
   premises_mean : (d : ℕ) (ps : List Raw) (h : ℕ) (ts : List TextToken) (q : Part) (rest : List TextToken) → MeansStep Means (premises sig d ps h ts) (Read q rest) → (start : List TextToken) → Before start ps ts → (q.priority ≡ 1) × Stands (token.Other term.OpenPremises ∷ start) q rest

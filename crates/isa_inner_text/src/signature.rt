@@ -97,12 +97,7 @@ impl Signature {
 
     /// Puts a sign of a new spelling last, with the constant that it names.
     #[tactic(auto, using(crate::proofs::Putting::put_new))]
-    pub fn put_sign(
-        &mut self,
-        spelling: Name,
-        sign: Sign,
-        constant: Name,
-    ) -> Result<(), AllocError>
+    pub fn put_sign(&mut self, spelling: Name, sign: Sign, constant: Name) -> Result<(), AllocError>
         requires new { spelled self.old.signs spelling ≡ None }
         ensures ok { OnOk result (self.new ≡ with_sign self.old spelling sign constant) }
         ensures err { OnErr result (self.new ≡ self.old) }

@@ -12,6 +12,8 @@ use Rattle.isa_typing.specs.Principal.{IsPrincipal, HasNoTyping}
 use Rattle.isa_typing.proofs.WellTyped.{principal_terms_are_typed_law, annotations_hold_law, variables_have_one_type_law}
 use Rattle.isa_outer.specs.declared.refusal.Kind.{Kind}
 use Rattle.isa_outer.specs.declared.refusal.Kind.TheVariants as kind
+use Rattle.isa_inner_text.specs.Signatures.{SignatureSeen}
+use Rattle.isa_typing.specs.Scopes.{declared_in}
 use Rattle.isa_syntax.specs.Syntaxes.{SyntaxSeen}
 use Rattle.isa_syntax.specs.Refusals.{kind_of}
 use Rattle.isa_syntax.specs.Reading.{TellsProp, IsRead, IsRefused, HasNoTypes, TellsType, IsType, IsNoType, Answers, types_of}
@@ -38,6 +40,14 @@ pub type_refusal_tells : (s : SyntaxSeen) (schematic : Bool) (text : List ℕ) (
 type_refusal_tells s schematic text why a = λ n.
     let w = a (λ e. n (memory_kind why e)) in
     subst (λ (j : Refusal). TellsType s schematic text (Err (kind_of j))) (sym w.2) (IsNoType w.0 w.1 w.3)
+
+pub refused_type : (s : SyntaxSeen) (schematic : Bool) (text : List ℕ) (sig : SignatureSeen) (why : Refusal) (k : Kind) → sig ≡ s.signature → k ≡ kind_of why → inner.AnswersType sig schematic text (Err why) → Answers {A = Ty} (TellsType s schematic text) (Err k)
+refused_type s schematic text sig why k e f a =
+    subst (λ (j : Kind). Answers {A = Ty} (TellsType s schematic text) (Err j)) (sym f)
+    (type_refusal_tells s schematic text why (subst (λ (g : SignatureSeen). inner.AnswersType g schematic text (Err why)) e a))
+
+pub untyped : (es fs : List (List ℕ × Ty)) (u v : Raw) → es ≡ fs → u ≡ v → HasNoTyping (declared_in es) u → HasNoTyping (declared_in fs) v
+untyped es fs u v e f h = subst (λ (gs : List (List ℕ × Ty)). HasNoTyping (declared_in gs) v) e (subst (λ (w : Raw). HasNoTyping (declared_in es) w) f h)
 
 -- a principal term is a proposition where the text is read as one
 told : (s : SyntaxSeen) (raw : Raw) (t : Tm) → IsPrincipal (types_of s) (RawTyped raw prop) t → IsTold t

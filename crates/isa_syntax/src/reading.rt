@@ -30,6 +30,7 @@ fn principal(alloc: Global, syntax: &Syntax, raw: RawTerm) -> Result<Term, Kind>
 
 /// The proposition that a text tells: the principal term of what is read, in normal form; unknowns may stand in the text
 /// where it is schematic. Otherwise the first cause in reading order for which the text is refused, `Types` behind all others.
+#[tactic(auto, using(crate::proofs::Telling::inferred_tells, crate::proofs::Telling::refusal_tells))]
 pub fn read_prop(alloc: Global, syntax: &Syntax, schematic: bool, text: &[u8]) -> Result<Term, Kind>
     ensures { Answers (TellsProp syntax.now schematic text.now) result }
 {
@@ -40,6 +41,7 @@ pub fn read_prop(alloc: Global, syntax: &Syntax, schematic: bool, text: &[u8]) -
 }
 
 /// The type that a text tells, or the first cause for which it is refused; unknowns may stand in it where it is schematic.
+#[tactic(auto, using(crate::proofs::Telling::type_tells, crate::proofs::Telling::type_refusal_tells))]
 pub fn read_type(alloc: Global, syntax: &Syntax, schematic: bool, text: &[u8]) -> Result<Typ, Kind>
     ensures { Answers (TellsType syntax.now schematic text.now) result }
 {

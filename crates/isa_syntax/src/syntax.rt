@@ -24,9 +24,13 @@ pub struct Syntax {
 }
 
 impl Model for Syntax {
+    ghost use Rattle.std.specs.Coded.{codes};
+    ghost use Rattle.isa_terms.specs.Codes.{coded_ty};
     ghost use Rattle.isa_syntax.specs.Syntaxes.{SyntaxSeen};
 
     ghost Value = { SyntaxSeen };
+
+    ghost coded = { Prim.hlevel (codes, coded_ty) };
 
     ghost view = { λ s. record { signature = s.signature; constants = s.constants.entries } };
 }
