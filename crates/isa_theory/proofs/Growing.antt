@@ -20,10 +20,25 @@ pub goes_front : {A : Type 0} (xs ys : List A) → Goes xs ys → take (length x
 goes_front xs ys g = ap (λ l. take (length xs) l) g.is ∙ take-append_seam xs g.more
 
 pub grows_same : (c : ContextSeen) → Grows c c
-grows_same c = record { theory = goes_same c.theory; facts = goes_same c.facts; judgment = refl }
+grows_same c = record { theory = goes_same c.theory; judgment = refl; facts = goes_same c.facts; declarations = goes_same c.declarations; options = refl; lemmas = refl }
 
 pub grows_on : (a b c : ContextSeen) → Grows a b → Grows b c → Grows a c
-grows_on a b c g h = record { theory = goes_on a.theory b.theory c.theory g.theory h.theory; facts = goes_on a.facts b.facts c.facts g.facts h.facts; judgment = h.judgment ∙ g.judgment }
+grows_on a b c g h = record {
+  theory = goes_on a.theory b.theory c.theory g.theory h.theory;
+  judgment = h.judgment ∙ g.judgment;
+  facts = goes_on a.facts b.facts c.facts g.facts h.facts;
+  declarations = goes_on a.declarations b.declarations c.declarations g.declarations h.declarations;
+  options = h.options ∙ g.options;
+  lemmas = h.lemmas ∙ g.lemmas;
+}
 
-pub grows_cut : (a b : ContextSeen) → Grows a b → record b { theory = take (length a.theory) b.theory; facts = take (length a.facts) b.facts } ≡ a
-grows_cut a b g = λ i. record { theory = goes_front a.theory b.theory g.theory i; judgment = g.judgment i; facts = goes_front a.facts b.facts g.facts i }
+pub grows_cut : (a b : ContextSeen) → Grows a b → record b { theory = take (length a.theory) b.theory; facts = take (length a.facts) b.facts; declarations = take (length a.declarations) b.declarations; logic = a.logic } ≡ a
+grows_cut a b g = λ i. record {
+  theory = goes_front a.theory b.theory g.theory i;
+  judgment = g.judgment i;
+  facts = goes_front a.facts b.facts g.facts i;
+  declarations = goes_front a.declarations b.declarations g.declarations i;
+  logic = a.logic;
+  options = g.options i;
+  lemmas = g.lemmas i;
+}
