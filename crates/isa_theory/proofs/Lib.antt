@@ -1,4 +1,4 @@
 pub mod Growing
 pub mod Steps
-pub mod Storing
+pub mod Closing
 pub mod Loops

@@ -135,7 +135,7 @@ impl Context {
 
     /// Closes a lemma: answers its theorem with unknowns for its variables, and stores it, cited by the
     /// number of lemmas closed before, where the lemma has a name.
-    #[tactic(auto, using(crate::proofs::Storing::closed_without))]
+    #[tactic(auto, using(crate::proofs::Closing::closed_without))]
     pub fn store(
         &mut self,
         alloc: Global,
@@ -170,7 +170,12 @@ impl Context {
         let mark = self.mark()?;
         let general = general(alloc, thm)?;
         let kept = self.kept(alloc, &general)?;
-        match self.close(alloc, lemma.name.as_ref(), lemma.attributes.as_slice(), &kept) {
+        match self.close(
+            alloc,
+            lemma.name.as_ref(),
+            lemma.attributes.as_slice(),
+            &kept,
+        ) {
             Ok(()) => Ok(general),
             Err(kind) => {
                 self.undo_to(mark);
