@@ -41,6 +41,11 @@ impl Stack {
         self.thms.pop().ok_or(Fault::Words)
     }
 
+    /// The instance of the entries that were put.
+    pub fn inst(&self) -> &Inst {
+        &self.inst
+    }
+
     fn put_thm(&mut self, th: Thm) -> Result<(), Fault> {
         match self.thms.push(th) {
             Ok(()) => Ok(()),

@@ -1,8 +1,9 @@
 //! What the commands so far declared and proved.
-ghost use Rattle.std.specs.Prelude.{◌≡◌, IfOk, IfSome, IfNone, Some, None, is_some, option_map};
+ghost use Rattle.std.specs.Prelude.{◌≡◌, IfOk, IfSome, IfNone, Some, None, false, is_some, option_map};
 ghost use Rattle.std.specs.Option.{option_copied};
 ghost use Rattle.isa_kernel.specs.Theories.{constant_type, axiom_refusal, axiom_prop, axiom_theorem};
 ghost use Rattle.isa_kernel.specs.declared.declarations.Declaration.TheVariants.{Axiom};
+ghost use Rattle.isa_goal.specs.Counted.{has_counted};
 ghost use Rattle.isa_goal.specs.Goals.{started};
 ghost use Rattle.isa_goal.specs.Names.{canon};
 ghost use Rattle.isaprove.specs.Answer.{Answers};
@@ -54,11 +55,11 @@ impl Model for Context {
 
     ghost coded = { context_code };
 
-    ghost use Rattle.isaprove.specs.Sound.{IsGrounded};
+    ghost use Rattle.isaprove.specs.Sound.{IsGrounded, AreUncounted};
 
     ghost view = { λ c. record { theory = c.theory; judgment = c.judgment; facts = c.facts.items; lemma = c.lemma } };
 
-    ghost invariant = { λ c. IsGrounded (record { theory = c.theory; judgment = c.judgment; facts = c.facts.items; lemma = c.lemma }) };
+    ghost invariant = { λ c. IsGrounded (record { theory = c.theory; judgment = c.judgment; facts = c.facts.items; lemma = c.lemma }) × AreUncounted c.facts.items };
 }
 
 impl Context {
@@ -247,6 +248,7 @@ impl Context {
         let Some(lemma) = self.lemma.take() else {
             return Err(Refusal::NotBuilt);
         };
+        lemma.state.is_uncounted();
         let Ok(thm) = lemma.state.finish() else {
             return Err(Refusal::NoResult);
         };
@@ -261,7 +263,7 @@ impl Context {
     }
 
     /// Opens a lemma by its text.
-    #[tactic(auto, unfolding(crate::specs::Steps::with_lemma))]
+    #[tactic(auto, unfolding(crate::specs::Steps::with_lemma), using(crate::proofs::Uncounted::text_uncounted))]
     pub fn open_lemma(
         &mut self,
         alloc: Global,
@@ -301,6 +303,7 @@ fn lemma_with(lemma: Option<OpenLemma>, state: State) -> Option<OpenLemma>
 
 /// The state in which the proposition is the only subgoal of itself.
 fn opening_state(alloc: Global, prop: &Term) -> Result<State, Refusal>
+    requires { has_counted prop.now ≡ false }
     ensures { Answers result (option_map canon (started prop.now)) }
 {
     match State::start(alloc, prop) {

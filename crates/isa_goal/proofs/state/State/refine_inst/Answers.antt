@@ -4,4 +4,4 @@ use Rattle.isa_goal.proofs.state.State.refine_inst.Goals as goal
 
 pub returns-clause-follows : goal.returns-clause-follows
 returns-clause-follows c =
-    instance_leads c.args.inst.now c.args.place c.args.count c.args.th.now c.args.self.now c.in_ok-instance.instance c.in_ok-placed.placed _ c.requires (search rules) (search rules) c.is_standing.ensures c.is_derived.ensures (search rules)
+    instance_leads c.args.inst.now c.args.place c.args.count c.args.th.now c.args.self.now c.in_ok-instance.instance c.in_ok-placed.placed _ c.requires.kept (search rules) (search rules) c.is_standing.ensures c.is_derived.ensures (search rules)
