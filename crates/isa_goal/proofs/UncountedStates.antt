@@ -1,10 +1,10 @@
 -- States without free variables named `:` and digits, and what steps make of them.
-use Rattle.std.specs.Prelude.{option_and_then, option_map, Result, Ok}
-use Rattle.std.proofs.Common.{◌≡◌, ℕ, zero, suc, ◌+◌, ◌<◌, ◌-◌, arith, List, [], ◌∷◌, ◌++◌, map, take, drop, length, get_or, Bool, true, false, cond, Option, Some, None, refl, sym, ap, ◌∙◌, subst}
+use Rattle.std.specs.Prelude.{option_and_then, option_map, not, Result, Ok}
+use Rattle.std.proofs.Common.{◌≡◌, ℕ, zero, suc, ◌+◌, ◌<◌, ◌-◌, arith, List, [], ◌∷◌, ◌++◌, map, take, drop, length, get_or, Bool, true, false, cond, ◌&&◌, Option, Some, None, refl, sym, ap, ◌∙◌, subst}
 use Rattle.isa_terms.specs.Types.{Ty}
 use Rattle.isa_terms.specs.Terms.{Tm, Const, Free, Unknown, Bound, Abs, App}
 use Rattle.isa_terms.specs.Equal.{tm_eq}
-use Rattle.isa_terms.specs.Instance.{Instance, instance_of, inst_ty, find_term}
+use Rattle.isa_terms.specs.Instance.{Instance, instance_of, inst_ty, find_term, in_tms}
 use Rattle.isa_terms.specs.declared.inst.TypeEntry.{TypeEntry}
 use Rattle.isa_terms.specs.declared.inst.TermEntry.{TermEntry}
 use Rattle.isa_terms.specs.Unknowns.{unknowns_of}
@@ -177,7 +177,7 @@ behind_uncounted (p ∷ ps) t c e u =
 raised_uncounted : (hs : List Tm) (k : ℕ) (n : Instance) (th x : Theorem) → raised_instance hs k n th ≡ Some x → AreUncounted hs → GiveUncounted n.terms → Uncounted th.prop → Uncounted x.prop
 raised_uncounted hs k n th x e w g u =
     let i = bind_some (instantiated n th) _ e in
-    let c = cond_some _ _ i.1 in
+    let c = cond_some (keeps n.types n.terms && not (in_tms n.types n.terms th.hyps)) (Some (record { hyps = th.hyps; prop = instance_of n th.prop; base = th.base })) i.1 in
     let same : instance_of n th.prop ≡ i.0.prop = cc (c.1) in
     let v : Uncounted i.0.prop = subst Uncounted same (instance_uncounted n th.prop g u) in
     let p = bind_some (rule_form k i.0) _ i.2 in
