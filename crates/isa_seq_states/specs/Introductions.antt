@@ -16,8 +16,9 @@ use Rattle.isa_goal.specs.Resolving.{Search, results, left, base_of, all_first_o
 use Rattle.isa_seq.specs.declared.event.Event.TheVariants as variant
 use Rattle.isa_seq.specs.declared.event.Answer.{Answer}
 use Rattle.isa_seq.specs.declared.event.Answer.TheVariants.{State, NoMore, NoMoreOutside, Spent}
-use Rattle.isa_seq.specs.Traces.{Trace, nothing, event}
-use Rattle.isa_seq.specs.Meaning.{Primitives, Meaning}
+use Rattle.isa_seq.specs.Traces.{Trace, nothing, event, deepen}
+use Rattle.isa_seq.specs.Meaning.{Primitives, Meaning, is_solved}
+use Rattle.isa_seq.specs.Asking.{ask_of}
 use Rattle.isa_seq_states.specs.declared.run.Run.{Run}
 
 -- what is found, in its order
@@ -86,3 +87,7 @@ FollowsIfAnswered base s (State t) = Advances (propositions base) s t
 FollowsIfAnswered base s NoMore = Unit {0}
 FollowsIfAnswered base s (NoMoreOutside n) = Unit {0}
 FollowsIfAnswered base s Spent = Unit {0}
+
+-- the answer of a search by the rules, depth first, at subgoal 1 of each state, if fewer than `budget` ticks stand before it
+abbrev pub depth_first_answer : List Theorem → Goals → ℕ → Answer Goals
+depth_first_answer rules s budget = ask_of budget 0 (deepen (is_solved rule_primitives) (λ r. introduced rules r 1) s budget)

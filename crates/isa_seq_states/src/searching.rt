@@ -1,7 +1,7 @@
 //! A search by introductions.
 
-ghost use Rattle.std.specs.Prelude.{IfOk, [], ◌∷◌};
-ghost use Rattle.isa_seq_states.specs.Introductions.{base_of_all, FollowsIfAnswered};
+ghost use Rattle.std.specs.Prelude.{◌≡◌, IfOk, [], ◌∷◌};
+ghost use Rattle.isa_seq_states.specs.Introductions.{base_of_all, FollowsIfAnswered, depth_first_answer};
 
 use crate::introductions::Introductions;
 use isa_goal::State;
@@ -17,7 +17,8 @@ pub fn depth_first(
     state: &State,
     budget: u64,
 ) -> Result<Answer<State>, AllocError>
-    ensures { IfOk result (FollowsIfAnswered (base_of_all (rules ∷ [])) state.now) }
+    ensures answer { IfOk result (λ a. a ≡ depth_first_answer rules state.now budget) }
+    ensures follows { IfOk result (FollowsIfAnswered (base_of_all (rules ∷ [])) state.now) }
 {
     are_derived(rules.as_slice());
     state.is_standing();

@@ -1,13 +1,16 @@
-use Rattle.std.proofs.Common.{◌≡◌, [], ◌∷◌, sym, ◌∙◌, ap, subst}
+use Rattle.std.proofs.Common.{◌≡◌, List, [], ◌∷◌, sym, ◌∙◌, ap, subst}
 use Rattle.isa_seq.specs.Meaning.{AreSound}
 use Rattle.isa_seq.specs.Results.{primitives}
 use Rattle.isa_seq.proofs.Moves.{IfOk-map}
 use Rattle.isa_seq_states.specs.Introductions.{rule_primitives}
-use Rattle.isa_seq_states.proofs.Answered.{answered, rules_sound}
+use Rattle.isa_seq.specs.Tactics.{trace}
+use Rattle.isa_seq.specs.declared.tac.TacNode.{TacNode}
+use Rattle.isa_kernel.specs.Theorem.{Theorem}
+use Rattle.isa_seq_states.proofs.Answered.{answered, rules_sound, searched}
 use Rattle.isa_seq_states.proofs.searching.depth_first.Goals as goal
 
-pub returns : goal.returns
-returns c =
+pub returns-clause-follows : goal.returns-clause-follows
+returns-clause-follows c =
     let t = c.in_ok-search.search.node.value in
     let given = c.in_ok-machine.ensures.given in
     let used : primitives t ≡ c.args.rules ∷ [] = ap primitives c.in_ok-search.ensures ∙ ap primitives c.in_ok-introduction.ensures in
@@ -17,3 +20,13 @@ returns c =
       all = subst (λ ps. AreSound rule_primitives ps) (sym used) (λ p m. rules_sound c.args.rules p c.are_derived.ensures m);
     }))
     (λ a h. answered t c.args.rules c.args.state.now a used h)
+
+pub returns-clause-answer : goal.returns-clause-answer
+unfolding trace
+returns-clause-answer c =
+    let t = c.in_ok-search.search.node.value in
+    let u = c.in_ok-introduction.introduction.node.value in
+    let same = ap (λ (n : TacNode (List Theorem)). trace rule_primitives n c.args.state.now 1) c.in_ok-search.ensures in
+    IfOk-map c.ask.result _ _
+    (c.ask.ensures.place (trace rule_primitives t c.args.state.now 1) 0 c.in_ok-machine.ensures.given)
+    (λ a h. searched c.args.rules c.args.state.now c.args.budget u t a same c.in_ok-introduction.ensures h.answers)
