@@ -1,6 +1,6 @@
 -- No free variable that is read is named `:` and digits, and so none of a fact.
 use Rattle.std.proofs.Common.{◌≡◌, ℕ, zero, suc, List, [], ◌∷◌, ◌++◌, Bool, true, false, cond, ◌||◌, ◌&&◌, nat_eq, Option, Some, None, refl, sym, ap, ◌∙◌, subst, arith}
-use Rattle.std.specs.Prelude.{option_map, option_and_then, is_some}
+use Rattle.std.specs.Prelude.{option_map, option_and_then, is_some, IfOk, Result, Ok, Err}
 use Rattle.std.specs.Map.{lookup}
 use Rattle.std.proofs.lemmas.Bool.Decides.{nat_tests}
 use Rattle.std.specs.Cmp.Lexicographic.{bytes_decides}
@@ -26,9 +26,10 @@ use Rattle.isa_texts.specs.declared.signature.Variables.{Variables}
 use Rattle.isa_texts.specs.declared.signature.Variables.TheVariants as kind
 use Rattle.isa_texts.specs.Signatures.{SignatureSeen}
 use Rattle.isa_texts.specs.Inner.{variable, atom_at, atom, judged, prop_of_words, prop_of_text}
-use Rattle.isa_texts.specs.Grammar.{IsTerm, Applied, AreArguments, NoArgument, NameArgument, TermArgument, IsItem, TermItem, PropItem, IsProp, OneItem, Implies}
-use Rattle.isa_texts.proofs.GrammarLemmas.{reads_the_grammar}
+use Rattle.isa_texts.specs.Grammar.{IsTerm, Applied, AreArguments, NoArgument, NameArgument, TermArgument, IsItem, TermItem, PropItem, IsProp, OneItem, Implies, ReadsTheGrammar}
 use Rattle.isa_lines.specs.Words.{plain_words}
+use Rattle.isa_lines.specs.Answer.{Answers}
+use Rattle.isa_lines.specs.declared.error.SyntaxError.{SyntaxError}
 use Rattle.isa_goal.specs.Counted.{has_counted, rules_have_counted}
 use Rattle.isa_goal.proofs.Uncounted.{Uncounted, uncounted, counted_false}
 use Rattle.isaprove.specs.declared.context.Fact.{Fact}
@@ -95,9 +96,13 @@ mutual
   prop_uncounted c v _ _ (Implies vs p ws q d e) = ((tt, item_uncounted c v vs p d), prop_uncounted c v ws q e)
 
 -- the proposition of a text
-pub text_uncounted : (c : SignatureSeen) (v : Variables) (text : List ℕ) (p : Tm) → prop_of_text c v text ≡ Some p → has_counted p ≡ false
+text_uncounted : ReadsTheGrammar → (c : SignatureSeen) (v : Variables) (text : List ℕ) (p : Tm) → prop_of_text c v text ≡ Some p → has_counted p ≡ false
 unfolding prop_of_text
-text_uncounted c v text p e = counted_false p (prop_uncounted c v (plain_words text) p ((reads_the_grammar c v (plain_words text) p).1 e))
+text_uncounted reads c v text p e = counted_false p (prop_uncounted c v (plain_words text) p ((reads c v (plain_words text) p).1 e))
+
+pub read_uncounted : ReadsTheGrammar → (c : SignatureSeen) (v : Variables) (text : List ℕ) (r : Result Tm SyntaxError) → Answers r (prop_of_text c v text) → IfOk r (λ p. has_counted p ≡ false)
+read_uncounted reads c v text (Ok p) h = text_uncounted reads c v text p h
+read_uncounted reads c v text (Err e) h = tt
 
 -- ---- an axiom that is declared last
 found_last : (x : List ℕ) (p : Tm) (es : List (List ℕ × Tm)) → lookup (name_eq x) es ≡ None → lookup (name_eq x) (es ++ (x, p) ∷ []) ≡ Some p

@@ -15,12 +15,13 @@ ghost use Rattle.isa_print.specs.Text.{state_text};
 ghost use Rattle.isaprove.specs.Taken.{Becomes, Printing};
 
 use crate::proof::{first_result, general_theorem};
+use crate::reading::read_prop;
 use crate::refusal::Refusal;
 use isa_goal::State;
 use isa_kernel::{AxiomFail, InferenceError, Theory, TheoryFail, Thm, axiom, prop_type};
 use isa_print::{state_text, theorem_text};
 use isa_terms::{Name, Term, Typ, function_type};
-use isa_texts::{Judgment, Signature, Variables, judged_type, prop_of_text, type_of_text};
+use isa_texts::{Judgment, Signature, Variables, judged_type, type_of_text};
 use std::alloc::{AllocError, Global};
 use std::marker::Model;
 
@@ -168,7 +169,7 @@ impl Context {
         if self.fact(name).is_some() {
             return Err(Refusal::NotBuilt);
         }
-        let prop = prop_of_text(alloc, &self.signature(), Variables::Unknown, text)?;
+        let prop = read_prop(alloc, &self.signature(), Variables::Unknown, text)?;
         self.declare_axiom(alloc, name, &prop)?;
         let thm = self.axiom(alloc, name)?;
         self.facts.push(Fact {
@@ -263,7 +264,7 @@ impl Context {
     }
 
     /// Opens a lemma by its text.
-    #[tactic(auto, unfolding(crate::specs::Steps::with_lemma), using(crate::proofs::Uncounted::text_uncounted))]
+    #[tactic(auto, unfolding(crate::specs::Steps::with_lemma))]
     pub fn open_lemma(
         &mut self,
         alloc: Global,
@@ -276,7 +277,7 @@ impl Context {
         if self.fact(name).is_some() {
             return Err(Refusal::NotBuilt);
         }
-        let prop = prop_of_text(alloc, &self.signature(), Variables::Fixed, text)?;
+        let prop = read_prop(alloc, &self.signature(), Variables::Fixed, text)?;
         let state = opening_state(alloc, &prop)?;
         self.lemma = Some(OpenLemma {
             line,
