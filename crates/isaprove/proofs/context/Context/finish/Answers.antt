@@ -19,8 +19,7 @@ returns-in_default-finish c =
 
 pub invariant_of-self-3 : goal.invariant_of-self-3
 invariant_of-self-3 c =
-    let is_open : c.self.inside.lemma ≡ Some c.in-Some.lemma = cc (c.in-Some.ensures.value, c.in-Some.is) in
-    (
+    let is_open : c.self.inside.lemma ≡ Some c.in-Some.lemma = cc (c.in-Some.ensures.value, c.in-Some.is) in (
       grounded_proved _ _ _ _ c.self.invariant.0 c.in_ok-push.ensures.items c.in-Some.ensures.after
           (proved_rests _ c.in-Some.lemma c.in-Ok.thm c.in_ok-general.general c.self.invariant.0 is_open c.in-Ok.ensures c.in_ok-general.ensures.general),
       push_uncounted _ _ _ c.self.invariant.1 c.in_ok-push.ensures.items
