@@ -183,7 +183,7 @@ impl Stack {
     fn of_premises(&mut self, alloc: Global, rule: Rule) -> Result<Thm, Fault> {
         let th = self.take_thm()?;
         let mut premises = Terms::new(alloc);
-        while !self.terms.is_empty() {
+        for _premise in 0..self.terms.len() {
             premises.push(self.terms.take()?)?;
         }
         answered(match rule {
