@@ -1,23 +1,6 @@
 use crate::context::Context;
-use isa_outer::{Command, read_commands};
-use isa_terms::{Name, Names};
+use isa_outer::read_commands;
 use std::alloc::{AllocError, Global};
-
-/// The last refusal of a text's commands, with its line; empty where each is taken.
-fn last_refusal(alloc: Global, context: &mut Context, text: &str) -> Result<String, AllocError> {
-    let mut last = String::new(alloc);
-    match read_commands(alloc, text.as_bytes()) {
-        Err(refused) => last = format!(in alloc; "{refused}")?,
-        Ok(commands) => {
-            for command in commands.as_slice() {
-                if let Err(refused) = context.apply(alloc, command) {
-                    last = format!(in alloc; "{refused}")?;
-                }
-            }
-        }
-    }
-    Ok(last)
-}
 
 /// Declarations that are taken, and the first that is refused, with its line.
 #[test]
@@ -45,110 +28,24 @@ fn applies_commands(rt: HostRuntime) -> Result<(), AllocError> {
         ("wrapper safe before w = rule c", "1: unknown fact c"),
         ("declare a [simp]", "1: unknown fact a"),
         ("lemmas a [simp] = b", "1: unknown fact b"),
+        (
+            "typedecl o judgment J :: \"o => prop\"\naxiomatization where a [logic swap]: A",
+            "2: wrong form for swap",
+        ),
     ] {
         let mut context = Context::new(alloc)?;
-        let last = last_refusal(alloc, &mut context, text)?;
+        let mut last = String::new(alloc);
+        match read_commands(alloc, text.as_bytes()) {
+            Err(refused) => last = format!(in alloc; "{refused}")?,
+            Ok(commands) => {
+                for command in commands.as_slice() {
+                    if let Err(refused) = context.apply(alloc, command) {
+                        last = format!(in alloc; "{refused}")?;
+                    }
+                }
+            }
+        }
         assert!(rt; last.as_str() == told, "{text}: {last}");
     }
-    Ok(())
-}
-
-/// What the tests of roles are declared in.
-const LOGIC: &str =
-    "typedecl o typedecl i judgment J :: \"o => prop\" consts N :: \"o => o\" I :: \"o => o => o\" E :: \"i => i => o\" T :: o ";
-
-/// Facts that have the form of a role, and facts that lack a part of it.
-#[test]
-fn checks_roles(rt: HostRuntime) -> Result<(), AllocError> {
-    let alloc = rt.alloc();
-    for (role, prop, told) in [
-        ("close", "T", ""),
-        ("close", "P ==> T", "1: wrong form for close"),
-        ("close_asm", "T ==> P", ""),
-        ("close_asm", "T ==> T", "1: wrong form for close_asm"),
-        ("atomize", "I P Q ==> P ==> Q", ""),
-        ("atomize", "P", "1: wrong form for atomize"),
-        ("meta", "P", "1: wrong form for meta"),
-        ("swap", "N P ==> (N R ==> P) ==> R", ""),
-        (
-            "swap",
-            "N P ==> (N P ==> P) ==> P",
-            "1: wrong form for swap",
-        ),
-        (
-            "swap",
-            "N P ==> (N R ==> R) ==> R",
-            "1: wrong form for swap",
-        ),
-        ("classical", "(N P ==> P) ==> P", ""),
-        (
-            "classical",
-            "(N T ==> T) ==> T",
-            "1: wrong form for classical",
-        ),
-        ("not_elim", "N P ==> P ==> R", ""),
-        ("not_elim", "N P ==> R ==> P", "1: wrong form for not_elim"),
-        ("mp", "I P Q ==> P ==> Q", ""),
-        ("mp", "I P Q ==> Q ==> P", "1: wrong form for mp"),
-        ("iff_d1", "I P Q ==> P ==> Q", ""),
-        ("iff_d2", "I P Q ==> Q ==> P", ""),
-        ("iff_d2", "I P Q ==> P ==> Q", "1: wrong form for iff_d2"),
-        ("sym", "I P Q ==> I Q P", ""),
-        ("sym", "I P P ==> I P P", "1: wrong form for sym"),
-    ] {
-        let mut context = Context::new(alloc)?;
-        let text = format!(in alloc;
-            "{LOGIC}axiomatization where r [simp, logic {role}]: \"{prop}\""
-        )?;
-        let last = last_refusal(alloc, &mut context, text.as_str())?;
-        assert!(rt; last.as_str() == told, "{role}: {prop}: {last}");
-        let declared = if told.is_empty() { 2 } else { 0 };
-        assert!(rt; context.declarations().len() == declared, "{role}: {prop}");
-    }
-    Ok(())
-}
-
-/// A lemma's theorem is kept under its name as one that is cited, and its attributes act when it is stored.
-#[test]
-fn stores_lemmas(rt: HostRuntime) -> Result<(), AllocError> {
-    let alloc = rt.alloc();
-    let mut context = Context::new(alloc)?;
-    let told = last_refusal(alloc, &mut context, LOGIC)?;
-    assert!(rt; told.is_empty(), "{told}");
-    let Ok(commands) = read_commands(
-        alloc,
-        b"axiomatization where t: T lemma u [logic close]: T lemma v [simp, logic mp]: T lemma T",
-    ) else {
-        return Ok(());
-    };
-    for command in commands.as_slice() {
-        if let Command::Lemma { label, prop, .. } = command {
-            let Ok(lemma) = context.lemma(alloc, label.as_ref(), prop) else {
-                assert!(rt; false, "a lemma is not begun");
-                return Ok(());
-            };
-            let mut names = Names::new(alloc);
-            names.push(Name::from_text(alloc, "t")?)?;
-            let Ok(thms) = context.known_facts(alloc, names.as_slice()) else {
-                assert!(rt; false, "the axiom is not there");
-                return Ok(());
-            };
-            for thm in thms.as_slice() {
-                let told = match context.store_lemma(alloc, &lemma, thm) {
-                    Ok(_) => String::new(alloc),
-                    Err(refused) => format!(in alloc; "{refused}")?,
-                };
-                assert!(rt;
-                    told.is_empty() || told.as_str() == "1: wrong form for mp",
-                    "{told}"
-                );
-            }
-        } else {
-            assert!(rt; context.apply(alloc, command).is_ok());
-        }
-    }
-    assert!(rt; context.lemmas().len() == 2);
-    assert!(rt; context.declarations().len() == 1);
-    assert!(rt; context.logic().close.len() == 1);
     Ok(())
 }
