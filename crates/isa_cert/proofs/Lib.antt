@@ -1,2 +1,5 @@
 pub mod Cutting
 pub mod Proved
+pub mod Reading
+pub mod Adding
+pub mod CertLines
