@@ -1,16 +1,19 @@
 -- Lines one after another.
-use Rattle.std.proofs.Common.{◌≡◌, ℕ, suc, ◌+◌, ◌<◌, List, [], ◌∷◌, length, Bool, true, false, Result, Ok, Err, refl, sym, ap, ◌∙◌, subst, arith}
-use Rattle.std.specs.Prelude.{nat_eq, codes, IsErrAnd}
-use Rattle.std.specs.List.{slice_split, count_by}
+use Rattle.std.proofs.Common.{◌≡◌, ℕ, zero, suc, map, ◌+◌, ◌<◌, List, [], ◌∷◌, length, Bool, true, false, Result, Ok, Err, refl, sym, ap, ◌∙◌, subst, arith}
+use Rattle.std.specs.Prelude.{nat_eq, codes, IsErrAnd, IfOk}
+use Rattle.std.specs.List.{slice_split}
+use Rattle.std.proofs.lemmas.Bool.{eqb-true, eqb-false}
 use Rattle.std.proofs.lemmas.List.Splits.{length-slice_split}
 use Rattle.isa_terms.specs.Equal.{name_eq}
 use Rattle.isa_cert.specs.declared.certs.Accepted.{Accepted}
 use Rattle.isa_cert.specs.declared.table.Table.{Table}
+use Rattle.isa_cert.specs.declared.table.End.{End}
+use Rattle.isa_cert.proofs.Proved.{accepted_are_proved}
 use Rattle.isa_cert.specs.declared.fail.LineFail.{LineFail}
 use Rattle.isa_cert.specs.declared.fail.LineFail.TheVariants as fails
 use Rattle.isa_cert.specs.declared.checking.CertFail.{CertFail}
 use Rattle.isa_cert.specs.declared.checking.CertFail.TheVariants as cert
-use Rattle.isa_cert.specs.Checking.{Fault, Refusal, FormAt, NoEnd, Form, Typed, Step, at, at_line, read_line, taken_from, closed, checked, checked_lines, accepted_of, empty}
+use Rattle.isa_cert.specs.Checking.{Fault, Refusal, FormAt, NoEnd, Form, Typed, Step, at, at_line, read_line, taken_from, closed, checked, checked_lines, accepted_of, accepted, empty, AreProved}
 use Rattle.isa_cert.specs.Answers.{BecomesWith}
 use Rattle.isa_cert.specs.Answered.{Takes, refusal_at}
 
@@ -95,3 +98,39 @@ refusal_kept cert.Memory text r h k = tt
 pub passed_on_cert : {A : Type 0} (r : Result A CertFail) (fail : CertFail) (whole : Result A Refusal) → IsErrAnd r (λ e. e ≡ fail) → Takes (Err fail) whole → Takes r whole
 passed_on_cert {A} (Ok a) fail whole h k = absurd h
 passed_on_cert {A} (Err e) fail whole h k = subst (λ (f : CertFail). Takes {A = A} (Err f) whole) (sym h) k
+
+-- ---- the answer
+pub told_empty : (n : ℕ) (b : Bool) → b ≡ nat_eq n 0 → b ≡ true → n ≡ 0
+told_empty n b e h = eqb-true n 0 (sym e ∙ h)
+
+above_zero : (n : ℕ) → (n ≡ 0 → ⊥) → 0 < n
+above_zero zero h = absurd (h refl)
+above_zero (suc n) h = omega arith
+
+pub told_nonempty : (n : ℕ) (b : Bool) → b ≡ nat_eq n 0 → b ≡ false → 0 < n
+told_nonempty n b e h = above_zero n (eqb-false n 0 (sym e ∙ h))
+
+pub empty_text : (text : List ℕ) (list : List Accepted) → length text ≡ 0 → list ≡ [] → checked text ≡ Ok list
+empty_text [] list h e = ap (λ (l : List Accepted). let r : Result (List Accepted) Refusal = Ok l in r) (sym e)
+empty_text (b ∷ bs) list h e = absurd (omega arith)
+
+pub behind_text : (text header lines : List ℕ) (r : Result (List Accepted) CertFail) → 0 < length text → lines_of text ≡ header ∷ lines_of lines → Takes r (checked_lines (header ∷ lines_of lines)) → Takes r (checked text)
+behind_text text header lines r h e k = subst (λ (w : Result (List Accepted) Refusal). Takes r w) (sym (nonempty text h ∙ ap checked_lines e)) k
+
+pub behind_other : (header lines : List ℕ) → name_eq header (codes "isacert 1") ≡ false → checked_lines (header ∷ lines_of lines) ≡ Err (FormAt 1)
+behind_other header lines e = header_other header (lines_of lines) e
+
+pub behind_refused : (fail : CertFail) (header lines : List ℕ) → name_eq header (codes "isacert 1") ≡ true → Takes {A = Table} (Err fail) (taken_from 2 empty false (lines_of lines)) → Takes {A = List Accepted} (Err fail) (checked_lines (header ∷ lines_of lines))
+behind_refused (cert.Form n) header lines e k = header_more header (lines_of lines) (some_line lines) e ∙ ap accepted_of k
+behind_refused (cert.Typed n) header lines e k = header_more header (lines_of lines) (some_line lines) e ∙ ap accepted_of k
+behind_refused (cert.Step n) header lines e k = header_more header (lines_of lines) (some_line lines) e ∙ ap accepted_of k
+behind_refused cert.NoEnd header lines e k = header_more header (lines_of lines) (some_line lines) e ∙ ap accepted_of k
+behind_refused cert.Memory header lines e k = tt
+
+pub behind_taken : (header lines : List ℕ) (t : Table) (ends : List End) (list : List Accepted) → name_eq header (codes "isacert 1") ≡ true → taken_from 2 empty false (lines_of lines) ≡ Ok t → ends ≡ t.ends → list ≡ map accepted ends → checked_lines (header ∷ lines_of lines) ≡ Ok list
+behind_taken header lines t ends list e k n m =
+    header_more header (lines_of lines) (some_line lines) e ∙ ap accepted_of k ∙ ap (λ (l : List Accepted). let r : Result (List Accepted) Refusal = Ok l in r) (ap (λ (es : List End). map accepted es) (sym n) ∙ sym m)
+
+pub proved_of : (text : List ℕ) (r : Result (List Accepted) CertFail) → Takes r (checked text) → IfOk r (λ list. AreProved list)
+proved_of text (Ok list) h = accepted_are_proved text list h
+proved_of text (Err fail) h = tt

@@ -3,3 +3,4 @@ pub mod Proved
 pub mod Reading
 pub mod Adding
 pub mod CertLines
+pub mod Citing

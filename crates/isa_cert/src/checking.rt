@@ -1,7 +1,7 @@
 //! Checking a text of certificates.
-ghost use Rattle.std.specs.Prelude.{◌≡◌, IfOk, nat_eq, false};
+ghost use Rattle.std.specs.Prelude.{◌≡◌, ◌∷◌, IfOk, nat_eq, false};
 ghost use Rattle.std.specs.List.{slice_split};
-ghost use Rattle.isa_cert.specs.Checking.{empty, taken_from, checked, AreProved};
+ghost use Rattle.isa_cert.specs.Checking.{empty, taken_from, checked, checked_lines, AreProved};
 ghost use Rattle.isa_cert.specs.Answered.{refusal_at, Takes, Answered};
 
 use crate::accepting::certs;
@@ -65,7 +65,8 @@ fn check_lines(alloc: Global, text: &[u8]) -> Result<Table, CertFail>
             Err(fail) => return Err(refusal(number, fail)),
         }
         // No text in memory has so many lines that the sum does not fit.
-        number = number.checked_add(1).ok_or(CertFail::Memory)?;
+        let later = number.checked_add(1).ok_or(CertFail::Memory)?;
+        number = later;
         rest = behind;
     }
     if !rest.is_empty() {
@@ -77,21 +78,34 @@ fn check_lines(alloc: Global, text: &[u8]) -> Result<Table, CertFail>
     Ok(table)
 }
 
-/// What a text of certificates proves, or the first line that is refused.
-#[tactic(auto, using(crate::proofs::Proved::accepted_are_proved, crate::proofs::CertLines::behind_header, crate::proofs::CertLines::other_header, crate::proofs::CertLines::no_line))]
-pub fn check_cert(alloc: Global, text: &[u8]) -> Result<Certs, CertFail>
-    ensures answer { Answered result (checked text.now) }
-    ensures proved { IfOk result (λ list. AreProved list) }
+/// What the lines behind a header prove.
+fn check_behind(alloc: Global, header: &[u8], lines: &[u8]) -> Result<Certs, CertFail>
+    ensures { Answered result (checked_lines (header.now ∷ slice_split (λ b. nat_eq b 10) lines.now)) }
 {
-    if text.is_empty() {
-        return Ok(Certs::new(alloc));
-    }
-    let Some((header, lines)) = split(text, b'\n') else {
-        return Err(CertFail::Form(1));
-    };
     if !is_word(header, "isacert 1") {
         return Err(CertFail::Form(1));
     }
     let table = check_lines(alloc, lines)?;
     Ok(certs(alloc, table.ends.as_slice())?)
+}
+
+/// What a text proves.
+fn check_text(alloc: Global, text: &[u8]) -> Result<Certs, CertFail>
+    ensures { Answered result (checked text.now) }
+{
+    if text.is_empty() {
+        return Ok(Certs::new(alloc));
+    }
+    match split(text, b'\n') {
+        None => Err(CertFail::Form(1)),
+        Some((header, lines)) => check_behind(alloc, header, lines),
+    }
+}
+
+/// What a text of certificates proves, or the first line that is refused.
+pub fn check_cert(alloc: Global, text: &[u8]) -> Result<Certs, CertFail>
+    ensures answer { Answered result (checked text.now) }
+    ensures proved { IfOk result (λ list. AreProved list) }
+{
+    check_text(alloc, text)
 }

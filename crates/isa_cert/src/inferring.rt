@@ -1,9 +1,10 @@
 //! The theorem of a step.
-ghost use Rattle.std.specs.Prelude.{◌≡◌, ◌++◌, [], ◌∷◌, Option, true, false, List, IfOk, OnOk, slice_get, Some, None};
+ghost use Rattle.std.specs.Prelude.{◌≡◌, ◌<◌, ◌≤◌, [], ◌∷◌, ℕ, Option, IfSome, IfNone, length, slice_get, Some};
 ghost use Rattle.isa_kernel.specs.Theorem.{Theorem};
 ghost use Rattle.isa_kernel.specs.Inferences.{Answers, assumed, implies_introduced, implies_eliminated, forall_introduced, forall_eliminated, reflexive_at, turned, chained, combined, abstracted, contracted, shortened, equal_introduced, equal_eliminated, generalized};
 ghost use Rattle.isa_cert.specs.Checking.{all_typed, or_step, on_term, on_step, on_both, on_steps, inferred, instance_on, or_form};
 ghost use Rattle.isa_cert.specs.declared.line.Rule.TheVariants.{Cite};
+ghost use Rattle.isa_cert.specs.Lines.{any_number};
 ghost use Rattle.isa_cert.specs.Answers.{Makes, Checks};
 
 use crate::fail::LineFail;
@@ -11,7 +12,7 @@ use crate::line::Rule;
 use crate::numbers::Pairs;
 use crate::instances::{check_all_typed, put_terms, put_types};
 use crate::reader::value_within;
-use crate::table::Table;
+use crate::table::{End, Table};
 use isa_kernel::{
     InferenceError, Thm, abstract_rule, assume, beta, combination, equal_elim, equal_intr, eta,
     forall_elim, forall_intr, generalize, implies_elim, implies_intr, instantiate_thm, reflexive,
@@ -19,9 +20,6 @@ use isa_kernel::{
 };
 use isa_terms::{IllTyped, Inst, Name, Names, Term, type_of};
 use std::alloc::Global;
-
-/// No end has a greater number.
-const GREATEST_END: u64 = u64::MAX;
 
 /// Asks that the term has a type.
 pub(crate) fn check_typed(alloc: Global, t: &Term) -> Result<(), LineFail>
@@ -213,16 +211,38 @@ fn axiom_copy(alloc: Global, table: &Table, number: u32) -> Result<Thm, LineFail
     Ok(th.copy(alloc)?)
 }
 
+/// Where the end of that number stands.
+fn end_place(table: &Table, digits: &[u8]) -> Option<usize>
+    ensures some { IfSome result (λ n. (any_number digits.now ≡ Some n) × (n < length table.now.ends)) }
+    ensures none { IfNone result ((n : ℕ) → any_number digits.now ≡ Some n → length table.now.ends ≤ n) }
+{
+    let count = table.ends.len();
+    match value_within(digits, count as u64) {
+        None => None,
+        Some(number) => {
+            if (number as usize) < count {
+                Some(number as usize)
+            } else {
+                None
+            }
+        }
+    }
+}
+
+/// The theorem of an end.
+fn theorem_of(alloc: Global, end: &End) -> Result<Thm, LineFail>
+    ensures { Makes result (Ok end.now.theorem) }
+{
+    Ok(end.theorem.copy(alloc)?)
+}
+
 /// The end of that number.
 fn citation(alloc: Global, table: &Table, digits: &Name) -> Result<Thm, LineFail>
     ensures { Makes result (inferred table.now (Cite digits.now)) }
 {
-    let Some(number) = value_within(digits.as_bytes(), GREATEST_END) else {
-        return Err(LineFail::Form);
-    };
-    match table.ends.as_slice().get(number as usize) {
-        Some(end) => Ok(end.theorem.copy(alloc)?),
+    match end_place(table, digits.as_bytes()) {
         None => Err(LineFail::Form),
+        Some(place) => theorem_of(alloc, table.ends.get(place)),
     }
 }
 

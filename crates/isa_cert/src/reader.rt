@@ -28,14 +28,15 @@ fn is_digit(byte: u8) -> bool
     b'0' <= byte && byte <= b'9'
 }
 
-/// The value of digits that are worth `value` and one more, where it fits.
-fn next_value(value: u64, byte: u8) -> Option<u64>
-    ensures some { IfSome result (λ n. n ≡ value * 10 + (byte - 48)) }
-    ensures none { IfNone result (2 ^ 64 ≤ value * 10 + (byte - 48)) }
+/// The value of digits that are worth `value` and one more, where it is within the limit.
+fn next_value(value: u64, byte: u8, limit: u64) -> Option<u64>
+    ensures some { IfSome result (λ n. (n ≡ value * 10 + (byte - 48)) × (n ≤ limit)) }
+    ensures none { IfNone result (limit < value * 10 + (byte - 48)) }
 {
-    value
+    let next = value
         .checked_mul(10)?
-        .checked_add(u64::from(byte.saturating_sub(b'0')))
+        .checked_add(u64::from(byte.saturating_sub(b'0')))?;
+    if next > limit { None } else { Some(next) }
 }
 
 /// The value of digits behind those that are worth `value`, where it is within the limit.
@@ -50,13 +51,10 @@ fn value_from(value: u64, digits: &[u8], limit: u64) -> Option<u64>
     if !is_digit(*first) {
         return None;
     }
-    let Some(next) = next_value(value, *first) else {
-        return None;
-    };
-    if next > limit {
-        return None;
+    match next_value(value, *first, limit) {
+        None => None,
+        Some(next) => value_from(next, rest, limit),
     }
-    value_from(next, rest, limit)
 }
 
 /// Whether the word is not empty, and no zero before other digits begins it.

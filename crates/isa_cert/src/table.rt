@@ -1,5 +1,5 @@
 //! What the lines of a certificate have given so far.
-ghost use Rattle.std.specs.Prelude.{◌≡◌, [], ◌∷◌, ◌++◌, length, slice_get, Some, None, IfOk, OnOk, MatchResult};
+ghost use Rattle.std.specs.Prelude.{◌≡◌, ◌<◌, [], ◌∷◌, ◌++◌, length, slice_get, Some, None, IfOk, OnOk, MatchResult};
 ghost use Rattle.isa_cert.specs.declared.fail.LineFail.TheVariants.{Form};
 
 use crate::fail::LineFail;
@@ -50,6 +50,21 @@ impl Ends {
     {
         self.items.push(item)?;
         Ok(())
+    }
+
+    /// How many ends there are.
+    pub fn len(&self) -> usize
+        ensures { result ≡ length self.now }
+    {
+        self.items.len()
+    }
+
+    /// The end at a place, counted from 0.
+    pub fn get(&self, place: usize) -> &End
+        requires { place < length self.now }
+        ensures { slice_get self.now place ≡ Some result.now }
+    {
+        &self.items[place]
     }
 
     /// The ends, in order.

@@ -1,6 +1,5 @@
-use Rattle.std.proofs.Common.{rules}
-use Rattle.isa_cert.proofs.CertLines.{behind_header, refusal_kept, passed_on_cert}
+use Rattle.isa_cert.proofs.CertLines.{proved_of}
 use Rattle.isa_cert.proofs.checking.check_cert.Goals as goal
 
-pub returns-in_err-table-clause-answer : goal.returns-in_err-table-clause-answer
-returns-in_err-table-clause-answer c = passed_on_cert _ _ _ c.from_residual.ensures.1 (refusal_kept _ _ _ (behind_header _ _ _ (search rules) c.in-Some.ensures.first (search rules)) c.in_err-table.ensures)
+pub returns-clause-proved : goal.returns-clause-proved
+returns-clause-proved c = proved_of c.args.text.now c.check_text.result c.check_text.ensures
