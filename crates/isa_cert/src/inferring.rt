@@ -8,9 +8,9 @@ ghost use Rattle.isa_cert.specs.Lines.{any_number};
 ghost use Rattle.isa_cert.specs.Answers.{Makes, Checks};
 
 use crate::fail::LineFail;
+use crate::instances::{check_all_typed, put_terms, put_types};
 use crate::line::Rule;
 use crate::numbers::Pairs;
-use crate::instances::{check_all_typed, put_terms, put_types};
 use crate::reader::value_within;
 use crate::table::{End, Table};
 use isa_kernel::{
@@ -173,12 +173,7 @@ fn replacement(alloc: Global, table: &Table, first: u32, second: u32) -> Result<
 }
 
 /// Unknowns in the place of the named variables.
-fn generalization(
-    alloc: Global,
-    table: &Table,
-    names: &Names,
-    step: u32,
-) -> Result<Thm, LineFail>
+fn generalization(alloc: Global, table: &Table, names: &Names, step: u32) -> Result<Thm, LineFail>
     ensures { Makes result (on_step table.now (generalized names.now) step) }
 {
     let th = table.step(step)?;

@@ -179,12 +179,7 @@ fn take_abstraction(
 }
 
 /// Takes an application.
-fn take_application(
-    alloc: Global,
-    table: &mut Table,
-    fun: u32,
-    arg: u32,
-) -> Result<(), LineFail>
+fn take_application(alloc: Global, table: &mut Table, fun: u32, arg: u32) -> Result<(), LineFail>
     ensures { Becomes result table.new (taken table.old (TermApp fun arg)) }
 {
     let fun = table.term(fun)?.copy()?;
