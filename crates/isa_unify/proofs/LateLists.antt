@@ -4,7 +4,7 @@ use Rattle.std.proofs.lemmas.List.{drop-append-le, drop_all}
 use Rattle.isa_terms.specs.declared.inst.TypeEntry.{TypeEntry}
 use Rattle.isa_terms.specs.declared.inst.TermEntry.{TermEntry}
 use Rattle.isa_unify.specs.declared.equation.Equation.{Equation}
-use Rattle.isa_unify.specs.declared.late.Solution.{Solution}
+use Rattle.isa_unify.specs.declared.log.Solution.{Solution}
 use Rattle.isa_unify.specs.declared.late.Waiting.{Waiting}
 use Rattle.isa_unify.specs.Late.{put_in, with_all, put_in_types, types_with_all, put_in_terms, terms_with_all, last, all_waiting}
 

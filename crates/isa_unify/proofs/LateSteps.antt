@@ -5,8 +5,8 @@ use Rattle.isa_terms.specs.declared.inst.TypeEntry.{TypeEntry}
 use Rattle.isa_terms.specs.declared.inst.TermEntry.{TermEntry}
 use Rattle.isa_unify.specs.declared.equation.Equation.{Equation}
 use Rattle.isa_unify.specs.declared.progress.State.{State}
-use Rattle.isa_unify.specs.declared.late.Solution.{Solution}
-use Rattle.isa_unify.specs.declared.late.Solution.TheVariants.{Types, Terms}
+use Rattle.isa_unify.specs.declared.log.Solution.{Solution}
+use Rattle.isa_unify.specs.declared.log.Solution.TheVariants.{Types, Terms}
 use Rattle.isa_unify.specs.declared.late.Waiting.{Waiting}
 use Rattle.isa_unify.specs.Late.{all_waiting, types_with_all, terms_with_all, put_in_state, with_all, last, with_parts}
 use Rattle.isa_unify.specs.Unification.{with_first}
@@ -53,3 +53,7 @@ started st late h = h ∙ (λ i. record st { equations = append_none st.equation
     append_none : (es : List Equation) → es ++ [] ≡ es
     append_none [] = refl
     append_none (e ∷ es) = ap (λ fs. e ∷ fs) (append_none es)
+
+-- the state with no equation and no solution
+pub at_start : (log : List Solution) (ts : List TypeEntry) (fs : List TermEntry) (next left : ℕ) → log ≡ [] → state [] log 0 ts fs next left ≡ record { equations = []; types = ts; terms = fs; next = next; left = left }
+at_start log ts fs next left h = ap (λ l. state [] l 0 ts fs next left) h

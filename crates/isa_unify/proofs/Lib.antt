@@ -15,6 +15,7 @@ pub mod Liftings
 pub mod Lists
 pub mod NoTypes
 pub mod Unvisited
+pub mod SolvedPlaces
 pub mod LateLists
 pub mod LateSteps
 pub mod Once

@@ -10,6 +10,7 @@ pub mod Unification
 pub mod Clashes
 pub mod Steps
 pub mod StateCodes
+pub mod SolvedPlaces
 pub mod Late
 pub mod LateStates
 pub mod Calls

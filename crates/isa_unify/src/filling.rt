@@ -2,7 +2,7 @@
 
 ghost use Rattle.std.specs.Prelude.{◌≡◌, [], map, IfOk};
 ghost use Rattle.isa_unify.specs.TypeUnification.{entries_under};
-ghost use Rattle.isa_unify.specs.Unification.{filled, filled_equation, filled_entry, retyped, retyped_variable, retyped_equation, retyped_entry, retyped_state};
+ghost use Rattle.isa_unify.specs.Unification.{filled, retyped, retyped_variable, retyped_equation, retyped_entry, retyped_state};
 
 use crate::equation::{Binders, Equation, Equations, Variable};
 use crate::progress::State;
@@ -11,7 +11,7 @@ use isa_terms::{Term, TermEntries, TermEntry, TypeEntries, TypeEntry, inst_term,
 use std::alloc::{AllocError, Global};
 
 /// The term with terms for its unknowns, in normal form.
-fn filled(alloc: Global, terms: &[TermEntry], t: &Term) -> Result<Term, AllocError>
+pub fn filled(alloc: Global, terms: &[TermEntry], t: &Term) -> Result<Term, AllocError>
     ensures { IfOk result (λ r. r ≡ filled terms.now t.now) }
 {
     let none = TypeEntries::new(alloc);
@@ -19,50 +19,16 @@ fn filled(alloc: Global, terms: &[TermEntry], t: &Term) -> Result<Term, AllocErr
     norm(alloc, &instance)
 }
 
-/// The equation with terms for unknowns, in normal form.
-pub fn filled_equation(
-    alloc: Global,
-    terms: &[TermEntry],
-    equation: &Equation,
-) -> Result<Equation, AllocError>
-    ensures { IfOk result (λ r. r ≡ filled_equation terms.now equation.now) }
-{
-    Ok(Equation {
-        binders: equation.binders.copy()?,
-        left: filled(alloc, terms, &equation.left)?,
-        right: filled(alloc, terms, &equation.right)?,
-    })
-}
-
-/// The entries with terms for unknowns, in normal form.
-pub fn filled_entries(
-    alloc: Global,
-    terms: &[TermEntry],
-    entries: &[TermEntry],
-) -> Result<TermEntries, AllocError>
-    ensures { IfOk result (λ r. r ≡ map (filled_entry terms.now) entries.now) }
-{
-    let mut done = TermEntries::new(alloc);
-    for entry in entries {
-        done.push(TermEntry {
-            name: entry.name.copy()?,
-            number: entry.number,
-            typ: entry.typ.copy()?,
-            term: filled(alloc, terms, &entry.term)?,
-        })?;
-    }
-    Ok(done)
-}
-
 /// The term with types for its type unknowns.
-fn retyped(alloc: Global, types: &[TypeEntry], t: &Term) -> Result<Term, AllocError>
+pub fn retyped(alloc: Global, types: &[TypeEntry], t: &Term) -> Result<Term, AllocError>
     ensures { IfOk result (λ r. r ≡ retyped types.now t.now) }
 {
     let none = TermEntries::new(alloc);
     inst_term(alloc, types, none.as_slice(), t)
 }
 
-fn retyped_binders(
+/// The binders with types for type unknowns.
+pub fn retyped_binders(
     alloc: Global,
     types: &[TypeEntry],
     binders: &Binders,
@@ -80,7 +46,7 @@ fn retyped_binders(
 }
 
 /// The equation with types for type unknowns.
-pub fn retyped_equation(
+fn retyped_equation(
     alloc: Global,
     types: &[TypeEntry],
     equation: &Equation,
@@ -128,7 +94,7 @@ pub fn retyped_types(
 }
 
 /// The entries with types for type unknowns.
-pub fn retyped_entries(
+fn retyped_entries(
     alloc: Global,
     types: &[TypeEntry],
     entries: &[TermEntry],

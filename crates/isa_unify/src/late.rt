@@ -2,27 +2,16 @@
 //! taken, and in the answer at the end.
 
 ghost use Rattle.std.specs.Prelude.{◌≡◌, IfOk, OnOk};
-ghost use Rattle.isa_unify.specs.Late.{put_in, with_all, types_with_all, put_in_terms, terms_with_all, last, with_parts, put_in_state, Takes};
+ghost use Rattle.isa_unify.specs.Late.{with_parts, Takes};
 ghost use Rattle.isa_unify.specs.Unification.{filled_state, retyped_state, after_new, with_first};
 ghost use Rattle.isa_unify.specs.declared.progress.Answer.TheVariants.{Yes};
 
 use crate::equation::{Equation, Equations};
-use crate::filling::{
-    filled_entries, filled_equation, retyped_entries, retyped_equation, retyped_types,
-};
+use crate::log::Log;
 use crate::progress::{Answer, State};
 use isa_terms::{TermEntries, TypeEntries, TypeEntry};
 use std::alloc::{AllocError, Global};
 use std::marker::Model;
-
-/// What a step solved.
-#[derive(Drop)]
-pub enum Solution {
-    /// Types for type unknowns.
-    Types(TypeEntries),
-    /// Terms for unknowns.
-    Terms(TermEntries),
-}
 
 /// An equation that waits for its turn.
 #[derive(Drop)]
@@ -30,73 +19,6 @@ pub struct Waiting {
     pub equation: Equation,
     /// How many solutions those behind it had missed when it came.
     pub missed: usize,
-}
-
-/// The equation with the solution.
-fn put_in(alloc: Global, solution: &Solution, equation: &Equation) -> Result<Equation, AllocError>
-    ensures { IfOk result (λ e. e ≡ put_in solution.now equation.now) }
-{
-    match solution {
-        Solution::Types(types) => retyped_equation(alloc, types.as_slice(), equation),
-        Solution::Terms(terms) => filled_equation(alloc, terms.as_slice(), equation),
-    }
-}
-
-/// The equation with the solutions, one after the other.
-fn with_all(alloc: Global, log: &[Solution], equation: Equation) -> Result<Equation, AllocError>
-    ensures { IfOk result (λ e. e ≡ with_all log.now equation) }
-{
-    let mut current = equation;
-    for solution in log {
-        current = put_in(alloc, solution, &current)?;
-    }
-    Ok(current)
-}
-
-/// What the type unknowns that are asked for become by the solutions.
-fn types_with_all(
-    alloc: Global,
-    log: &[Solution],
-    types: TypeEntries,
-) -> Result<TypeEntries, AllocError>
-    ensures { IfOk result (λ ts. ts ≡ types_with_all log.now types) }
-{
-    let mut current = types;
-    for solution in log {
-        if let Solution::Types(entries) = solution {
-            current = retyped_types(alloc, entries.as_slice(), current.as_slice())?;
-        }
-    }
-    Ok(current)
-}
-
-/// The entries with the solution.
-fn put_in_terms(
-    alloc: Global,
-    solution: &Solution,
-    terms: &TermEntries,
-) -> Result<TermEntries, AllocError>
-    ensures { IfOk result (λ ts. ts ≡ put_in_terms solution.now terms.now) }
-{
-    match solution {
-        Solution::Types(types) => retyped_entries(alloc, types.as_slice(), terms.as_slice()),
-        Solution::Terms(found) => filled_entries(alloc, found.as_slice(), terms.as_slice()),
-    }
-}
-
-/// What the unknowns that are asked for become by the solutions.
-fn terms_with_all(
-    alloc: Global,
-    log: &[Solution],
-    terms: TermEntries,
-) -> Result<TermEntries, AllocError>
-    ensures { IfOk result (λ ts. ts ≡ terms_with_all log.now terms) }
-{
-    let mut current = terms;
-    for solution in log {
-        current = put_in_terms(alloc, solution, &current)?;
-    }
-    Ok(current)
 }
 
 /// The same entries.
@@ -114,20 +36,13 @@ fn copied(alloc: Global, types: &[TypeEntry]) -> Result<TypeEntries, AllocError>
     Ok(done)
 }
 
-/// The last solutions, so many of them, or all.
-fn last(count: usize, log: &[Solution]) -> &[Solution]
-    ensures { result.now ≡ last count log.now }
-{
-    &log[log.len().saturating_sub(count)..]
-}
-
 /// The state of a unification: the equations that wait, and what was solved.
 #[derive(Drop)]
 pub struct Late {
     /// The equations, the first one on top.
     stack: Vec<Waiting>,
     /// What was solved, in order.
-    log: Vec<Solution>,
+    log: Log,
     /// How many solutions the first equation has missed.
     missed: usize,
     /// What is asked for, without the solutions.
@@ -152,7 +67,7 @@ impl Model for Late {
 
 impl Late {
     /// The state, in which nothing was solved yet.
-    #[tactic(auto, using(crate::proofs::LateSteps::started))]
+    #[tactic(auto, using(crate::proofs::LateSteps::started, crate::proofs::LateSteps::at_start))]
     pub fn of(alloc: Global, start: State) -> Result<Late, AllocError>
         ensures { IfOk result (λ late. late ≡ start) }
     {
@@ -165,7 +80,7 @@ impl Late {
         } = start;
         let mut late = Late {
             stack: Vec::new(alloc),
-            log: Vec::new(alloc),
+            log: Log::new(alloc),
             missed: 0,
             types,
             terms,
@@ -201,6 +116,7 @@ impl Late {
     }
 
     /// Takes the first equation, with what was solved.
+    #[tactic(auto, using(crate::proofs::LateSteps::taken_off))]
     pub fn take_first(&mut self, alloc: Global) -> Result<Option<Equation>, AllocError>
         ensures { IfOk result (λ first. Takes first self.old self.new) }
     {
@@ -208,27 +124,64 @@ impl Late {
             None => Ok(None),
             Some(waiting) => {
                 let Waiting { equation, missed } = waiting;
-                let first = with_all(alloc, last(self.missed, &self.log), equation)?;
+                let from = self.log.len().saturating_sub(self.missed);
+                let first = self.log.put_in(alloc, from, &equation)?;
                 self.missed = self.missed.checked_add(missed).ok_or(AllocError)?;
                 Ok(Some(first))
             }
         }
     }
 
-    /// The state with what was solved.
-    fn put_in(mut self, solution: Solution) -> Result<Late, AllocError>
-        ensures { IfOk result (λ late. late ≡ put_in_state solution self) }
+    /// The state with terms for unknowns.
+    pub fn filled(self, found: TermEntries) -> Result<Late, AllocError>
+        ensures { IfOk result (λ late. late ≡ filled_state found self) }
     {
-        self.log.push(solution)?;
-        self.missed = self.missed.checked_add(1).ok_or(AllocError)?;
-        Ok(self)
+        let Late {
+            stack,
+            log,
+            missed,
+            types,
+            terms,
+            next,
+            left,
+        } = self;
+        let log = log.with_terms(found)?;
+        let missed = missed.checked_add(1).ok_or(AllocError)?;
+        Ok(Late {
+            stack,
+            log,
+            missed,
+            types,
+            terms,
+            next,
+            left,
+        })
     }
 
-    /// The state with terms for unknowns.
-    pub fn filled(self, terms: TermEntries) -> Result<Late, AllocError>
-        ensures { IfOk result (λ late. late ≡ filled_state terms self) }
+    /// The state with types for type unknowns.
+    fn with_types(self, found: TypeEntries) -> Result<Late, AllocError>
+        ensures { IfOk result (λ late. late ≡ retyped_state found self) }
     {
-        self.put_in(Solution::Terms(terms))
+        let Late {
+            stack,
+            log,
+            missed,
+            types,
+            terms,
+            next,
+            left,
+        } = self;
+        let log = log.with_types(found)?;
+        let missed = missed.checked_add(1).ok_or(AllocError)?;
+        Ok(Late {
+            stack,
+            log,
+            missed,
+            types,
+            terms,
+            next,
+            left,
+        })
     }
 
     /// The state with types for type unknowns; without any it stays.
@@ -239,7 +192,7 @@ impl Late {
         if types.is_empty() {
             return Ok(self);
         }
-        self.put_in(Solution::Types(copied(alloc, types)?))
+        self.with_types(copied(alloc, types)?)
     }
 
     /// What is answered where no equation is left.
@@ -253,8 +206,8 @@ impl Late {
             next,
             ..
         } = self;
-        let types = types_with_all(alloc, &log, types)?;
-        let terms = terms_with_all(alloc, &log, terms)?;
+        let types = log.put_in_types(alloc, types)?;
+        let terms = log.put_in_entries(alloc, terms.as_slice())?;
         Ok(Answer::Yes(types, terms, next))
     }
 

@@ -11,6 +11,7 @@ mod filling;
 mod fresh;
 mod late;
 mod laws;
+mod log;
 mod matching;
 mod numbers;
 mod parts;

@@ -1,7 +1,7 @@
 use Rattle.std.proofs.Common.{◌≡◌, drop}
 use Rattle.isa_unify.specs.Late.{types_with_all}
-use Rattle.isa_unify.proofs.late.types_with_all.Given as goal
+use Rattle.isa_unify.proofs.log.types_with_all.Given as goal
 
 -- what is left makes what all make
 abbrev pub invariant-loop-solution : goal.invariant-loop-solution
-invariant-loop-solution l = types_with_all (drop l.solution-index l.log) l.current ≡ types_with_all l.log l.fn.types
+invariant-loop-solution l = types_with_all (drop l.solution-index l.solutions) l.current ≡ types_with_all l.solutions l.fn.types

@@ -1,7 +1,0 @@
-use Rattle.std.proofs.Common.{◌≡◌, drop}
-use Rattle.isa_unify.specs.Late.{terms_with_all}
-use Rattle.isa_unify.proofs.late.terms_with_all.Given as goal
-
--- what is left makes what all make
-abbrev pub invariant-loop-solution : goal.invariant-loop-solution
-invariant-loop-solution l = terms_with_all (drop l.solution-index l.log) l.current ≡ terms_with_all l.log l.fn.terms
