@@ -1,5 +1,5 @@
 -- The state that a late one stands for, as it changes.
-use Rattle.std.proofs.Common.{◌≡◌, ℕ, ◌+◌, List, [], ◌∷◌, ◌++◌, reverse, refl, ap, ◌∙◌, arith}
+use Rattle.std.proofs.Common.{◌≡◌, ℕ, ◌+◌, ◌-◌, ◌≤◌, List, [], ◌∷◌, ◌++◌, map, reverse, refl, sym, ap, ◌∙◌, arith}
 use Rattle.std.proofs.lemmas.List.{reverse-append}
 use Rattle.isa_terms.specs.declared.inst.TypeEntry.{TypeEntry}
 use Rattle.isa_terms.specs.declared.inst.TermEntry.{TermEntry}
@@ -12,7 +12,7 @@ use Rattle.isa_unify.specs.Late.{all_waiting, types_with_all, terms_with_all, pu
 use Rattle.isa_unify.specs.Unification.{with_first}
 use Rattle.isa_unify.proofs.LateLists.{waiting_one_more, types_with_one_more, terms_with_one_more, last_none}
 
-abbrev state : List Waiting → List Solution → ℕ → List TypeEntry → List TermEntry → ℕ → ℕ → State
+abbrev pub state : List Waiting → List Solution → ℕ → List TypeEntry → List TermEntry → ℕ → ℕ → State
 state ws log k ts fs next left = record { equations = all_waiting log k (reverse ws); types = types_with_all log ts; terms = terms_with_all log fs; next = next; left = left }
 
 pub one_more : (ws : List Waiting) (log : List Solution) (k : ℕ) (ts : List TypeEntry) (fs : List TermEntry) (next left : ℕ) (s : Solution) → state ws (log ++ s ∷ []) (k + 1) ts fs next left ≡ put_in_state s (state ws log k ts fs next left)
@@ -38,6 +38,20 @@ put_before ws log k ts fs next left e = λ i. record { equations = put i; types 
 
     put : all_waiting log 0 (reverse (ws ++ record { equation = e; missed = k } ∷ [])) ≡ e ∷ all_waiting log k (reverse ws)
     put = ap (all_waiting log 0) (last_first ws (record { equation = e; missed = k })) ∙ (λ i. first i ∷ all_waiting log (none i) (reverse ws))
+
+-- an equation that has missed so many solutions, before those that have missed more
+pub put_since : (ws : List Waiting) (log : List Solution) (since m : ℕ) (e : Equation) → since ≤ m → all_waiting log since (reverse (ws ++ record { equation = e; missed = m - since } ∷ [])) ≡ with_all (last since log) e ∷ all_waiting log m (reverse ws)
+put_since ws log since m e h = ap (all_waiting log since) (last_first ws (record { equation = e; missed = m - since })) ∙ (λ i. with_all (last since log) e ∷ all_waiting log (whole i) (reverse ws))
+  where
+    whole : since + (m - since) ≡ m
+    whole = omega arith
+
+pub put_more_since : (us ws : List Waiting) (since m : ℕ) (e : Equation) (es rest : List Equation) (log : List Solution) (X : List Equation) → since ≤ m → us ≡ ws ++ record { equation = e; missed = m - since } ∷ [] → es ≡ e ∷ rest → all_waiting log m (reverse ws) ≡ map (with_all (last since log)) rest ++ X → all_waiting log since (reverse us) ≡ map (with_all (last since log)) es ++ X
+put_more_since us ws since m e es rest log X h u s a =
+    ap (λ l. all_waiting log since (reverse l)) u
+    ∙ put_since ws log since m e h
+    ∙ ap (λ l. with_all (last since log) e ∷ l) a
+    ∙ ap (λ l. map (with_all (last since log)) l ++ X) (sym s)
 
 -- the last on the stack is taken
 pub taken_off : (ws vs : List Waiting) (w : Waiting) (log : List Solution) (k : ℕ) (ts : List TypeEntry) (fs : List TermEntry) (next left : ℕ) → ws ≡ vs ++ w ∷ [] → state ws log k ts fs next left ≡ with_first (with_all (last k log) w.equation) (state vs log (k + w.missed) ts fs next left)

@@ -18,6 +18,7 @@ pub mod Unvisited
 pub mod SolvedPlaces
 pub mod LateLists
 pub mod LateSteps
+pub mod Opening
 pub mod Once
 pub mod Entries
 pub mod Flexible

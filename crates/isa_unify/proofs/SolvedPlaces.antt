@@ -288,16 +288,16 @@ module _ (ps : Places) (tangled : Bool) (end : ℕ) (log : List Solution) (index
       steady : (p : ℕ) (s : Solution) → p < q - a → slice_get (drop a log) p ≡ Some s → put_in_term s t ≡ t
       steady p s l g = put_same f a b t n o (a + p) s (omega arith) (omega (arith, l, e)) (sym (get_drop a p log) ∙ g)
 
+  pub types_over : (a : ℕ) → end ≤ a → (p : ℕ) (s : List TypeEntry) → slice_get (drop a log) p ≡ Some (Types s) → ⊥
+  types_over a h p s g = let l = indexed.types (a + p) s (sym (get_drop a p log) ∙ g) in absurd (omega (arith, l, h))
+
   pub variables_same : (a : ℕ) (vs : List Variable) → end ≤ a → vs ≡ variables_with_all (drop a log) vs
-  variables_same a vs h = sym (terms_only (drop a log) none vs)
+  variables_same a vs h = sym (terms_only (drop a log) (types_over a h) vs)
     where
       terms_only : (l : List Solution) → ((p : ℕ) (s : List TypeEntry) → slice_get l p ≡ Some (Types s) → ⊥) → (ws : List Variable) → variables_with_all l ws ≡ ws
       terms_only [] n ws = refl
       terms_only (Types s ∷ l) n ws = absurd (n 0 s refl)
       terms_only (Terms s ∷ l) n ws = terms_only l (λ p r g. n (suc p) r g) ws
-
-      none : (p : ℕ) (s : List TypeEntry) → slice_get (drop a log) p ≡ Some (Types s) → ⊥
-      none p s g = let l = indexed.types (a + p) s (sym (get_drop a p log) ∙ g) in absurd (omega (arith, l, h))
 
 -- ---- solutions part by part
 pub all_by_parts : (ss : List Solution) (e : Equation) → with_all ss e ≡ record { binders = variables_with_all ss e.binders; left = term_with_all ss e.left; right = term_with_all ss e.right }

@@ -1,5 +1,5 @@
 -- Solutions that are put in late: each equation has missed some, and they are put in when it is taken.
-use Rattle.std.specs.Prelude.{◌≡◌, ℕ, ◌+◌, ◌-◌, List, [], ◌∷◌, ◌++◌, map, length, drop, Option, Some, None}
+use Rattle.std.specs.Prelude.{◌≡◌, ℕ, ◌+◌, ◌-◌, List, [], ◌∷◌, ◌++◌, map, length, drop}
 use Rattle.isa_terms.specs.Terms.{Tm}
 use Rattle.isa_terms.specs.declared.inst.TypeEntry.{TypeEntry}
 use Rattle.isa_terms.specs.declared.inst.TermEntry.{TermEntry}
@@ -10,7 +10,7 @@ use Rattle.isa_unify.specs.declared.log.Solution.TheVariants.{Types, Terms}
 use Rattle.isa_unify.specs.declared.late.Waiting.{Waiting}
 use Rattle.isa_unify.specs.declared.progress.State.{State}
 use Rattle.isa_unify.specs.TypeUnification.{entries_under}
-use Rattle.isa_unify.specs.Unification.{filled, filled_equation, filled_entry, filled_state, retyped, retyped_variable, retyped_equation, retyped_entry, retyped_state, with_first}
+use Rattle.isa_unify.specs.Unification.{filled, filled_equation, filled_entry, filled_state, retyped, retyped_variable, retyped_equation, retyped_entry, retyped_state}
 
 -- the equation with a solution
 abbrev pub put_in : Solution → Equation → Equation
@@ -80,8 +80,3 @@ put_in_state (Terms s) st = filled_state s st
 -- the state with the equations before its own
 abbrev pub with_parts : List Equation → State → State
 with_parts es st = record st { equations = es ++ st.equations }
-
--- the first equation is taken of old, which leaves new
-abbrev pub Takes : Option Equation → State → State → Type 0
-Takes None old new = (old.equations ≡ []) × (new ≡ old)
-Takes (Some e) old new = old ≡ with_first e new

@@ -13,6 +13,7 @@ pub mod StateCodes
 pub mod SolvedPlaces
 pub mod Late
 pub mod LateStates
+pub mod Opened
 pub mod Calls
 pub mod Worked
 pub mod UnificationRows

@@ -1,15 +1,18 @@
 //! The state of a unification, in which what was solved is put in late: in an equation when it is
 //! taken, and in the answer at the end.
 
-ghost use Rattle.std.specs.Prelude.{◌≡◌, IfOk, OnOk};
-ghost use Rattle.isa_unify.specs.Late.{with_parts, Takes};
+ghost use Rattle.std.specs.Prelude.{◌≡◌, ◌≤◌, ◌++◌, List, map, drop, length, reverse, IfOk, OnOk};
+ghost use Rattle.isa_unify.specs.Late.{with_all, last, all_waiting, with_parts};
+ghost use Rattle.isa_unify.specs.Opened.{is_rigid, ArePartsBefore, Opens};
+ghost use Rattle.isa_unify.specs.declared.log.Solution.{Solution};
 ghost use Rattle.isa_unify.specs.Unification.{filled_state, retyped_state, after_new, with_first};
 ghost use Rattle.isa_unify.specs.declared.progress.Answer.TheVariants.{Yes};
 
 use crate::equation::{Equation, Equations};
 use crate::log::Log;
-use crate::progress::{Answer, State};
-use isa_terms::{TermEntries, TypeEntries, TypeEntry};
+use crate::parts::parts_at;
+use crate::progress::{Answer, Parts, State};
+use isa_terms::{Term, TermEntries, TermNode, Typ, TypeEntries, TypeEntry};
 use std::alloc::{AllocError, Global};
 use std::marker::Model;
 
@@ -19,6 +22,81 @@ pub struct Waiting {
     pub equation: Equation,
     /// How many solutions those behind it had missed when it came.
     pub missed: usize,
+}
+
+/// What comes of the first equation.
+#[derive(Drop)]
+pub enum Opened {
+    /// There is none.
+    Nothing,
+    /// It was taken, with what was solved.
+    Whole(Equation),
+    /// Its heads, or the numbers of arguments, differ.
+    Clashing,
+    /// Its parts stand in its place.
+    Parted,
+    /// The same, where the types of the heads have to agree.
+    Typed(Typ, Typ),
+}
+
+/// Whether a constant, a free variable or a bound one stands at the head of the term.
+fn is_rigid(t: &Term) -> bool
+    ensures { result ≡ is_rigid t.now }
+{
+    match t.view() {
+        TermNode::Const(_, _) | TermNode::Free(_, _) | TermNode::Bound(_) => true,
+        TermNode::Unknown(_, _, _) | TermNode::Abs(_, _, _) => false,
+        TermNode::App(fun, _) => is_rigid(fun),
+    }
+}
+
+/// The parts of an equation that has missed the solutions from a place on, which the parts miss too; `Flexible` where
+/// they have to be put in first.
+#[tactic(auto, using(crate::proofs::Opening::parts_before))]
+fn parts_before(
+    alloc: Global,
+    log: &Log,
+    from: usize,
+    equation: &Equation,
+) -> Result<Parts, AllocError>
+    requires { from ≤ length log.now.solutions.items }
+    ensures { IfOk result (λ p. ArePartsBefore (drop from log.now.solutions.items) equation.now p) }
+{
+    if from < log.types_end {
+        return Ok(Parts::Flexible);
+    }
+    if !is_rigid(&equation.left) {
+        return Ok(Parts::Flexible);
+    }
+    if !is_rigid(&equation.right) {
+        return Ok(Parts::Flexible);
+    }
+    let parts = parts_at(alloc, &equation.binders, &equation.left, &equation.right)?;
+    Ok(parts)
+}
+
+/// Puts the equations on top of the others, in their order, where each has missed `since` solutions, and those behind them
+/// `missed`; how many the first one has missed then.
+#[tactic(auto, using(crate::proofs::LateSteps::put_more_since))]
+fn put_since(
+    stack: &mut Vec<Waiting>,
+    missed: usize,
+    since: usize,
+    mut equations: Equations,
+) -> Result<usize, AllocError>
+    requires { since ≤ missed }
+    ensures least { IfOk result (λ m. since ≤ m) }
+    ensures waiting { IfOk result (λ m. (log : List Solution) → all_waiting log m (reverse stack.new.items) ≡ map (with_all (last since log)) equations ++ all_waiting log missed (reverse stack.old.items)) }
+{
+    match equations.take_first() {
+        None => Ok(missed),
+        Some(equation) => {
+            let behind = put_since(stack, missed, since, equations)?;
+            let missed = behind - since;
+            stack.push(Waiting { equation, missed })?;
+            Ok(since)
+        }
+    }
 }
 
 /// The same entries.
@@ -115,19 +193,33 @@ impl Late {
         }
     }
 
-    /// Takes the first equation, with what was solved.
-    #[tactic(auto, using(crate::proofs::LateSteps::taken_off))]
-    pub fn take_first(&mut self, alloc: Global) -> Result<Option<Equation>, AllocError>
-        ensures { IfOk result (λ first. Takes first self.old self.new) }
+    /// Takes the first equation. Where its heads are rigid, its parts stand in its place, and what was solved is put into
+    /// them when they are taken; else it is put in now.
+    #[tactic(auto, using(crate::proofs::Opening::opens_nothing))]
+    pub fn open_first(&mut self, alloc: Global) -> Result<Opened, AllocError>
+        ensures { IfOk result (λ opened. Opens opened self.old self.new) }
     {
-        match self.stack.pop() {
-            None => Ok(None),
-            Some(waiting) => {
-                let Waiting { equation, missed } = waiting;
-                let from = self.log.len().saturating_sub(self.missed);
+        let Some(waiting) = self.stack.pop() else {
+            return Ok(Opened::Nothing);
+        };
+        let Waiting { equation, missed } = waiting;
+        let since = self.missed;
+        let from = self.log.len().saturating_sub(since);
+        let behind = since.checked_add(missed).ok_or(AllocError)?;
+        match parts_before(alloc, &self.log, from, &equation)? {
+            Parts::Flexible => {
                 let first = self.log.put_in(alloc, from, &equation)?;
-                self.missed = self.missed.checked_add(missed).ok_or(AllocError)?;
-                Ok(Some(first))
+                self.missed = behind;
+                Ok(Opened::Whole(first))
+            }
+            Parts::Clash => Ok(Opened::Clashing),
+            Parts::Into(parts) => {
+                self.missed = put_since(&mut self.stack, behind, since, parts)?;
+                Ok(Opened::Parted)
+            }
+            Parts::Heads(left, right, parts) => {
+                self.missed = put_since(&mut self.stack, behind, since, parts)?;
+                Ok(Opened::Typed(left, right))
             }
         }
     }

@@ -9,7 +9,7 @@ ghost use Rattle.isa_unify.specs.Unification.{agreeing, assigned, renewed, both_
 use crate::abstractions::{abstracted, over, range_behind};
 use crate::clashing::unified_types;
 use crate::equation::{Binders, Equation};
-use crate::late::Late;
+use crate::late::{Late, Opened};
 use crate::numbers::Numbers;
 use crate::parts::parts_at;
 use crate::places::{Pattern, first_place, shared_of};
@@ -341,13 +341,18 @@ fn front_step(alloc: Global, mut state: Late, equation: &Equation) -> Result<Pro
 }
 
 /// Takes the first equation, until none is left.
-#[tactic(auto, unfolding(crate::specs::Unification::unify_step))]
 fn advance(alloc: Global, mut state: Late) -> Result<Progress, AllocError>
     ensures { IfOk result (λ p. p ≡ taken (unify_step state)) }
 {
-    match state.take_first(alloc)? {
-        Some(equation) => front_step(alloc, state, &equation),
-        None => Ok(Progress::Ended(state.answer(alloc)?)),
+    match state.open_first(alloc)? {
+        Opened::Nothing => Ok(Progress::Ended(state.answer(alloc)?)),
+        Opened::Whole(equation) => front_step(alloc, state, &equation),
+        Opened::Clashing => Ok(Progress::Ended(Answer::No)),
+        Opened::Parted => Ok(Progress::Going(state)),
+        Opened::Typed(left, right) => match unified_types(alloc, left, right)? {
+            None => Ok(Progress::Ended(Answer::No)),
+            Some(types) => Ok(Progress::Going(state.retyped(alloc, types.as_slice())?)),
+        },
     }
 }
 
