@@ -13,6 +13,7 @@ pub mod Loops
 pub mod ClashLaws
 pub mod Liftings
 pub mod Lists
+pub mod Mapped
 pub mod NoTypes
 pub mod Unvisited
 pub mod LateLists
