@@ -16,8 +16,9 @@ use Rattle.isa_kernel.proofs.Theories.{insert_new}
 use Rattle.isa_outer.specs.declared.refusal.Sort.TheVariants as sort
 use Rattle.isa_theory.specs.Contexts.{ContextSeen, fact_of}
 use Rattle.isa_theory.specs.Applying.{kind_of, declared, new_name, new_fact, with_fact}
-use Rattle.isa_theory.specs.Private.Growing.{Grows, Becomes}
+use Rattle.isa_theory.specs.Private.Growing.{Grows, Becomes, MayBecome}
 use Rattle.isa_theory.specs.Results.{Answers}
+use Rattle.isa_theory.specs.Told.{Reading, IsChecked, IsUnread, IsRead, Then, IsRefused, Leads, May}
 use Rattle.isa_theory.proofs.Growing.{goes_same, goes_more}
 
 -- the theory refused the declaration
@@ -52,6 +53,36 @@ answers_refused {A} wanted (Err e) k h f = subst (λ (j : Kind). j ≢ kind.Memo
 pub becomes_refused : {A : Type 0} (now : ContextSeen) (wanted : Result ContextSeen Kind) (r : Result A Kind) (k : Kind) → IsErrAnd r (λ e. e ≡ k) → (k ≢ kind.Memory → wanted ≡ Err k) → Becomes r now wanted
 becomes_refused {A} now wanted (Ok a) k h f = absurd h
 becomes_refused {A} now wanted (Err e) k h f = subst (λ (j : Kind). j ≢ kind.Memory → wanted ≡ Err j) (sym h) f
+
+-- a step that reads
+pub may_refused : {A : Type 0} (wanted : Result A Kind → Type 0) (r : Result A Kind) (k : Kind) → IsErrAnd r (λ e. e ≡ k) → (k ≢ kind.Memory → wanted (Err k)) → May wanted r
+may_refused {A} wanted (Ok a) k h f = absurd h
+may_refused {A} wanted (Err e) k h f = subst (λ (j : Kind). j ≢ kind.Memory → wanted (Err j)) (sym h) f
+
+pub may_become_refused : {A : Type 0} (now : ContextSeen) (wanted : Result ContextSeen Kind → Type 0) (r : Result A Kind) (k : Kind) → IsErrAnd r (λ e. e ≡ k) → (k ≢ kind.Memory → wanted (Err k)) → MayBecome r now wanted
+may_become_refused {A} now wanted (Ok a) k h f = absurd h
+may_become_refused {A} now wanted (Err e) k h f = subst (λ (j : Kind). j ≢ kind.Memory → wanted (Err j)) (sym h) f
+
+-- a text was read, and a known step came behind it
+pub reading_becomes : {A : Type 0} (check : Result (Unit {0}) Kind) (tells : Result A Kind → Type 0) (rest : A → Result ContextSeen Kind) (a : A) (now : ContextSeen) (r : Result (Unit {0}) Kind) → check ≡ Ok tt → tells (Ok a) → Becomes r now (rest a) →
+    MayBecome r now (Reading check tells rest)
+reading_becomes {A} check tells rest a now (Ok u) c t h = IsRead a (Ok now) c t h
+reading_becomes {A} check tells rest a now (Err k) c t h = λ n. IsRead a (Err k) c t (h n)
+
+-- a text was read behind a check
+pub reading_may : {A : Type 0} (check : Result (Unit {0}) Kind) (tells : Result A Kind → Type 0) (r : Result A Kind) → check ≡ Ok tt → May tells r → May (Reading check tells (λ a. Ok a)) r
+reading_may {A} check tells (Ok a) c t = IsRead a (Ok a) c t refl
+reading_may {A} check tells (Err k) c t = λ n. IsUnread k c (t n)
+
+-- a known step came behind others
+pub then_becomes : (first : Result ContextSeen Kind → Type 0) (rest : ContextSeen → Result ContextSeen Kind) (c now : ContextSeen) (r : Result (Unit {0}) Kind) → first (Ok c) → Becomes r now (rest c) → MayBecome r now (Then first rest)
+then_becomes first rest c now (Ok u) f h = Leads c (Ok now) f h
+then_becomes first rest c now (Err k) f h = λ n. Leads c (Err k) f (h n)
+
+-- what may come of a known step
+pub becomes_may : {A : Type 0} (r : Result A Kind) (now : ContextSeen) (wanted : Result ContextSeen Kind) → Becomes r now wanted → MayBecome r now (λ w. wanted ≡ w)
+becomes_may {A} (Ok a) now wanted h = h
+becomes_may {A} (Err k) now wanted h = h
 
 -- a name that passed is new
 new_of : (x : List ℕ) (b : Bool) → new_name sort.Fact x b ≡ Ok tt → b ≡ false

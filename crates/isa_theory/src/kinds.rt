@@ -1,11 +1,9 @@
 //! Refusals of declarations.
 ghost use Rattle.std.specs.Prelude.{◌≡◌};
 ghost use Rattle.isa_theory.specs.Applying.{kind_of, new_name, unless_built};
-ghost use Rattle.isa_theory.specs.Private.Growing.{unread};
 ghost use Rattle.isa_theory.specs.Results.{Answers};
 
 use isa_kernel::TheoryFail;
-use isa_lines::SyntaxError;
 use isa_outer::{Kind, Sort};
 use isa_terms::Name;
 
@@ -19,16 +17,6 @@ pub fn kind_of(sort: Sort, fail: TheoryFail) -> Kind
         TheoryFail::Misfit(name) => Kind::Arity(name),
         TheoryFail::IllTyped(_) | TheoryFail::NotProp(_) => Kind::Types,
         TheoryFail::Memory => Kind::Memory,
-    }
-}
-
-/// Why a quoted text is not read.
-pub fn unread(error: SyntaxError) -> Kind
-    ensures { result ≡ unread error }
-{
-    match error {
-        SyntaxError::NotBuilt => Kind::NotBuilt,
-        SyntaxError::Memory => Kind::Memory,
     }
 }
 

@@ -5,11 +5,11 @@ mod applying;
 mod attributes;
 mod context;
 mod declared;
+mod general;
 mod kinds;
 mod lemma;
 mod method_facts;
 mod options;
-mod reading;
 mod roles;
 mod storing;
 #[cfg(test)]
@@ -20,4 +20,3 @@ pub use context::Context;
 pub use declared::Declared;
 pub use lemma::Lemma;
 pub use options::Options;
-pub use isa_texts::Judgment;

@@ -1,71 +1,24 @@
 //! Proved lemmas as facts.
-ghost use Rattle.std.specs.Prelude.{◌≡◌, ◌++◌, [], OnOk, OnErr, IfOk};
+ghost use Rattle.std.specs.Prelude.{◌≡◌, [], OnOk, OnErr, IfOk};
 ghost use Rattle.std.specs.Option.{option_copied};
-ghost use Rattle.isa_terms.specs.Types.{tys_of};
 ghost use Rattle.isa_kernel.specs.Theorem.{IsDerived};
-ghost use Rattle.isa_theory.specs.Storing.{type_names, types_names, variable_names, general_of, with_named, with_closed, kept, closed_with, IsNewName, Stores};
+ghost use Rattle.isa_theory.specs.Storing.{general_of, with_named, with_closed, kept, closed_with, IsNewName, Stores};
 ghost use Rattle.isa_theory.specs.Private.Growing.{GrowsIfRefused, Becomes};
 
 use crate::context::Context;
+use crate::general::variable_names;
 use crate::lemma::Lemma;
 use isa_kernel::{InferenceError, Thm, Thms, generalize};
 use isa_outer::{Attribute, Kind, Refused};
-use isa_terms::{Name, Names, Term, TermNode, Typ, TypNode};
+use isa_terms::Name;
 use std::alloc::{AllocError, Global};
-
-/// Adds the names of the type variables.
-#[cycle(names)]
-fn push_type_names(typ: &Typ, names: &mut Names) -> Result<(), AllocError>
-    ensures { OnOk result (names.new ≡ names.old ++ type_names typ.now) }
-{
-    match typ.view() {
-        TypNode::Con(_, args) => push_types_names(args.as_slice(), names),
-        TypNode::Fixed(name) => names.push(name.copy()?),
-        TypNode::Unknown(_, _) => Ok(()),
-    }
-}
-
-#[cycle(names)]
-fn push_types_names(typs: &[Typ], names: &mut Names) -> Result<(), AllocError>
-    ensures { OnOk result (names.new ≡ names.old ++ types_names (tys_of typs.now)) }
-{
-    let Some((first, rest)) = typs.split_first() else {
-        return Ok(());
-    };
-    push_type_names(first, names)?;
-    push_types_names(rest, names)
-}
-
-/// Adds the names of the free variables and the type variables.
-fn push_variable_names(t: &Term, names: &mut Names) -> Result<(), AllocError>
-    ensures { OnOk result (names.new ≡ names.old ++ variable_names t.now) }
-{
-    match t.view() {
-        TermNode::Free(name, typ) => {
-            names.push(name.copy()?)?;
-            push_type_names(typ, names)
-        }
-        TermNode::Const(_, typ) | TermNode::Unknown(_, _, typ) => push_type_names(typ, names),
-        TermNode::Bound(_) => Ok(()),
-        TermNode::Abs(_, typ, body) => {
-            push_type_names(typ, names)?;
-            push_variable_names(body, names)
-        }
-        TermNode::App(fun, arg) => {
-            push_variable_names(fun, names)?;
-            push_variable_names(arg, names)
-        }
-    }
-}
 
 /// The theorem with unknowns for its free variables and type variables.
 fn general(alloc: Global, thm: &Thm) -> Result<Thm, AllocError>
     requires { thm.now.hyps ≡ [] }
     ensures { IfOk result (λ th. th ≡ general_of thm.now) }
 {
-    let mut names = Names::new(alloc);
-    push_variable_names(thm.prop(), &mut names)?;
-    match generalize(alloc, &names, thm) {
+    match generalize(alloc, &variable_names(alloc, thm.prop())?, thm) {
         Ok(general) => Ok(general),
         Err(InferenceError::Shape | InferenceError::Memory) => Err(AllocError),
     }

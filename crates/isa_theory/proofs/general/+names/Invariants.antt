@@ -1,5 +1,5 @@
 use Rattle.isa_terms.specs.Types.{ty_depth, tys_depth, tys_of}
-use Rattle.isa_theory.proofs.storing.+names.Given as goal
+use Rattle.isa_theory.proofs.general.+names.Given as goal
 
 abbrev pub decreases-push_type_names : goal.decreases-push_type_names
 decreases-push_type_names l = ty_depth l.typ.now
