@@ -33,12 +33,11 @@ abbrev pub GrowsIfRefused : {A : Type 0} → Result A Kind → ContextSeen → C
 GrowsIfRefused (Ok a) old new = Unit {0}
 GrowsIfRefused (Err k) old new = Grows old new
 
--- the context that is left is the wanted one, or the refusal is, want of memory aside
-abbrev pub Becomes : {A : Type 0} → Result A Kind → ContextSeen → Result ContextSeen Kind → Type 0
-Becomes (Ok a) now wanted = wanted ≡ Ok now
-Becomes (Err k) now wanted = k ≢ kind.Memory → wanted ≡ Err k
-
 -- the context that is left is one that may come, or the refusal is, want of memory aside
 abbrev pub MayBecome : {A : Type 0} → Result A Kind → ContextSeen → (Result ContextSeen Kind → Type 0) → Type 0
 MayBecome (Ok a) now wanted = wanted (Ok now)
 MayBecome (Err k) now wanted = k ≢ kind.Memory → wanted (Err k)
+
+-- the same, where just one may come
+abbrev pub Becomes : {A : Type 0} → Result A Kind → ContextSeen → Result ContextSeen Kind → Type 0
+Becomes r now wanted = MayBecome r now (λ w. wanted ≡ w)
