@@ -1,12 +1,16 @@
 -- Contexts that grow, and are cut back.
-use Rattle.std.proofs.Common.{◌≡◌, ◌≤◌, ℕ, List, [], ◌++◌, length, take, refl, sym, ap, subst, ◌∙◌, append_assoc, append-nil, length-append, arith}
-use Rattle.std.proofs.Math.Seq.{take-append_seam}
-use Rattle.isa_theory.specs.Contexts.{ContextSeen}
-use Rattle.std.specs.Prelude.{Option, Some, None}
-use Rattle.isa_syntax.specs.Syntaxes.{SyntaxSeen}
-use Rattle.isa_syntax.specs.Growing.{Stays, mark_of, undone, Goes as SyntaxGoes, Grows as SyntaxGrows}
+use Rattle.isa_kernel.specs.Theorem.{Theorem}
+use Rattle.isa_outer.specs.declared.refusal.Kind.{Kind}
 use Rattle.isa_syntax.proofs.Growing.{takes_back}
-use Rattle.isa_theory.specs.Private.Growing.{Goes, Grows}
+use Rattle.isa_syntax.specs.Growing.{Stays, mark_of, undone, Goes as SyntaxGoes, Grows as SyntaxGrows}
+use Rattle.isa_syntax.specs.Syntaxes.{SyntaxSeen}
+use Rattle.isa_theory.specs.Applying.{with_fact}
+use Rattle.isa_theory.specs.Contexts.{ContextSeen}
+use Rattle.isa_theory.specs.Private.Growing.{Goes, Grows, GrowsIfRefused}
+use Rattle.isa_theory.specs.Storing.{with_named}
+use Rattle.std.proofs.Common.{◌≡◌, ◌≤◌, ℕ, List, [], ◌∷◌, ◌++◌, length, take, refl, sym, ap, subst, ◌∙◌, append_assoc, append-nil, length-append, arith}
+use Rattle.std.proofs.Math.Seq.{take-append_seam}
+use Rattle.std.specs.Prelude.{Option, Some, None, Result, Ok, Err}
 
 pub goes_same : {A : Type 0} (xs : List A) → Goes xs xs
 goes_same xs = record { more = []; is = sym (append-nil xs) }
@@ -86,3 +90,16 @@ grows_cut a b g = λ i. record {
 -- another syntax that has grown
 pub grows_syntax : (c : ContextSeen) (s : SyntaxSeen) → SyntaxGrows c.syntax s → Grows c (record c { syntax = s })
 grows_syntax c s g = record { theory = goes_same c.theory; syntax = g; facts = goes_same c.facts; declarations = goes_same c.declarations; options = refl; lemmas = refl }
+
+pub grows_fact : (c d : ContextSeen) (x : List ℕ) (ths : List Theorem) → d ≡ with_fact c x ths → Grows c d
+grows_fact c d x ths e =
+    let put : Grows c (with_fact c x ths) = record { theory = goes_same c.theory; syntax = syntax_same c.syntax; facts = goes_more c.facts ((x, ths) ∷ []) (c.facts ++ (x, ths) ∷ []) refl; declarations = goes_same c.declarations; options = refl; lemmas = refl } in
+    subst (λ (k : ContextSeen). Grows c k) (sym e) put
+
+pub grows_named : (c d : ContextSeen) (name : Option (List ℕ)) (th : Theorem) → d ≡ with_named c name th → Grows c d
+grows_named c d None th e = subst (λ (k : ContextSeen). Grows c k) (sym e) (grows_same c)
+grows_named c d (Some x) th e = grows_fact c d x (th ∷ []) e
+
+pub grows_if_refused : {A : Type 0} (r : Result A Kind) (a b d : ContextSeen) → Grows a b → d ≡ b → GrowsIfRefused r a d
+grows_if_refused {A} (Ok x) a b d g e = tt
+grows_if_refused {A} (Err k) a b d g e = subst (λ (m : ContextSeen). Grows a m) (sym e) g

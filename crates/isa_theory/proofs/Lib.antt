@@ -1,4 +1,8 @@
 pub mod Growing
 pub mod Steps
+pub mod Growing
+pub mod Steps
 pub mod Syntaxes
+pub mod Closing
+pub mod Loops
 pub mod Loops

@@ -30,9 +30,13 @@ with_closed c th = record c { lemmas = c.lemmas ++ th ∷ [] }
 abbrev pub kept : ContextSeen → Theorem → Theorem
 kept c th = cited (length c.lemmas) (general_of th)
 
--- a lemma is closed: its theorem is stored under its name, and then its attributes act
+-- a theorem is stored under its name, and then its attributes act
+unfoldable pub named_with : ContextSeen → Option (List ℕ) → List Attribute → Theorem → Result ContextSeen Kind
+named_with c name attributes th = with_attributes (with_named c name th) attributes (th ∷ [])
+
+-- a lemma is closed with the theorem that is kept of it
 unfoldable pub closed_with : ContextSeen → Option (List ℕ) → List Attribute → Theorem → Result ContextSeen Kind
-closed_with c name attributes th = with_attributes (with_named c name th) attributes (th ∷ []) >>= (λ d. Ok (with_closed d th))
+closed_with c name attributes th = named_with c name attributes th >>= (λ d. Ok (with_closed d th))
 
 -- no fact has the name
 abbrev pub IsNewName : ContextSeen → Option (List ℕ) → Type 0

@@ -59,10 +59,11 @@ fn label_attributes(alloc: Global, label: Option<&Label>) -> Result<Attributes, 
 fn copy_attributes(alloc: Global, attributes: &[Attribute]) -> Result<Attributes, AllocError>
     ensures { IfOk result (λ copy. copy ≡ attributes.now) }
 {
-    let mut copy = Attributes::new(alloc);
-    for attribute in attributes {
-        copy.push(*attribute)?;
-    }
+    let Some((last, front)) = attributes.split_last() else {
+        return Ok(Attributes::new(alloc));
+    };
+    let mut copy = copy_attributes(alloc, front)?;
+    copy.push(*last)?;
     Ok(copy)
 }
 
@@ -157,7 +158,7 @@ impl Context {
         ensures grows { Grows self.old self.new }
     {
         for axiom in axioms {
-            self.declare_fact(alloc, &axiom.label.name, axiom.label.attributes.as_slice())?;
+            self.declare_fact(alloc, &axiom.label.name, &axiom.label.attributes)?;
         }
         Ok(())
     }
@@ -195,7 +196,7 @@ impl Context {
         ensures grows { Grows self.old self.new }
     {
         for declaration in declarations {
-            self.declare_fact(alloc, &declaration.fact, declaration.attributes.as_slice())?;
+            self.declare_fact(alloc, &declaration.fact, &declaration.attributes)?;
         }
         Ok(())
     }

@@ -4,7 +4,7 @@ ghost use Rattle.isa_theory.specs.Private.Growing.{Grows, Becomes};
 
 use crate::context::Context;
 use isa_kernel::Thm;
-use isa_outer::{Attribute, Kind};
+use isa_outer::{Attribute, Attributes, Kind};
 use isa_terms::Name;
 use std::alloc::Global;
 
@@ -32,10 +32,11 @@ impl Context {
         ensures becomes { Becomes result self.new (with_attributes self.old attributes.now thms.now) }
         ensures grows { Grows self.old self.new }
     {
-        for attribute in attributes {
-            self.act_on_each(alloc, *attribute, thms)?;
-        }
-        Ok(())
+        let Some((first, rest)) = attributes.split_first() else {
+            return Ok(());
+        };
+        self.act_on_each(alloc, *first, thms)?;
+        self.act(alloc, rest, thms)
     }
 
     /// The attributes of a fact act, which must be there.
@@ -44,12 +45,12 @@ impl Context {
         &mut self,
         alloc: Global,
         name: &Name,
-        attributes: &[Attribute],
+        attributes: &Attributes,
     ) -> Result<(), Kind>
         ensures becomes { Becomes result self.new (with_declared self.old name.now attributes.now) }
         ensures grows { Grows self.old self.new }
     {
         let thms = self.known_fact(name)?.copy(alloc)?;
-        self.act(alloc, attributes, thms.as_slice())
+        self.act(alloc, attributes.as_slice(), thms.as_slice())
     }
 }

@@ -304,12 +304,7 @@ fn is_sym(alloc: Global, judgment: &Name, t: &Term) -> Result<bool, AllocError>
 
 /// Whether a proposition has the form of a role, under the judgment of this name.
 #[tactic(auto, unfolding(crate::specs::Roles::has_form))]
-pub fn has_form(
-    alloc: Global,
-    judgment: &Name,
-    role: Role,
-    prop: &Term,
-) -> Result<bool, AllocError>
+pub fn has_form(alloc: Global, judgment: &Name, role: Role, prop: &Term) -> Result<bool, AllocError>
     ensures { IfOk result (λ b. b ≡ has_form judgment.now role prop.now) }
 {
     match role {

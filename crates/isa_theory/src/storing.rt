@@ -1,15 +1,16 @@
 //! Proved lemmas as facts.
-ghost use Rattle.std.specs.Prelude.{◌≡◌, [], OnOk, OnErr, IfOk};
+ghost use Rattle.std.specs.Prelude.{◌≡◌, [], length, OnOk, OnErr, IfOk};
 ghost use Rattle.std.specs.Option.{option_copied};
 ghost use Rattle.isa_kernel.specs.Theorem.{IsDerived};
-ghost use Rattle.isa_theory.specs.Storing.{general_of, with_named, with_closed, kept, closed_with, IsNewName, Stores};
-ghost use Rattle.isa_theory.specs.Private.Growing.{GrowsIfRefused, Becomes};
+ghost use Rattle.isa_theory.specs.Storing.{general_of, with_named, with_closed, kept, named_with, closed_with, IsNewName, Stores};
+ghost use Rattle.isa_kernel.specs.Citing.{cited};
+ghost use Rattle.isa_theory.specs.Private.Growing.{Grows, GrowsIfRefused, Becomes};
 
 use crate::context::Context;
 use crate::general::variable_names;
 use crate::lemma::Lemma;
 use isa_kernel::{InferenceError, Thm, Thms, generalize};
-use isa_outer::{Attribute, Kind, Refused};
+use isa_outer::{Attribute, Attributes, Kind, Refused};
 use isa_terms::Name;
 use std::alloc::{AllocError, Global};
 
@@ -25,7 +26,40 @@ fn general(alloc: Global, thm: &Thm) -> Result<Thm, AllocError>
 }
 
 impl Context {
-    /// Stores the theorem of a closed lemma under its name, and then its attributes act.
+    /// Stores a theorem under a name, where there is one.
+    fn put_named(&mut self, alloc: Global, name: Option<&Name>, thm: &Thm) -> Result<(), AllocError>
+        requires { IsNewName self.old (option_copied name) }
+        ensures ok { OnOk result (self.new ≡ with_named self.old (option_copied name.entry) thm.now) }
+        ensures err { OnErr result (self.new ≡ self.old) }
+    {
+        let Some(name) = name else {
+            return Ok(());
+        };
+        let mut thms = Thms::new(alloc);
+        thms.push(thm.copy(alloc)?)?;
+        self.push_fact(name.copy()?, thms)
+    }
+
+    /// Stores a theorem under a name, where there is one, and then its attributes act.
+    #[tactic(auto, unfolding(crate::specs::Storing::named_with))]
+    fn store_named(
+        &mut self,
+        alloc: Global,
+        name: Option<&Name>,
+        attributes: &[Attribute],
+        thm: &Thm,
+    ) -> Result<(), Kind>
+        requires { IsNewName self.old (option_copied name) }
+        ensures becomes { Becomes result self.new (named_with self.old (option_copied name.entry) attributes.now thm.now) }
+        ensures grows { Grows self.old self.new }
+    {
+        let mut thms = Thms::new(alloc);
+        thms.push(thm.copy(alloc)?)?;
+        self.put_named(alloc, name, thm)?;
+        self.act(alloc, attributes, thms.as_slice())
+    }
+
+    /// The lemma is closed: its theorem is stored, and then its attributes act.
     #[tactic(auto, unfolding(crate::specs::Storing::closed_with))]
     fn close(
         &mut self,
@@ -38,18 +72,23 @@ impl Context {
         ensures becomes { Becomes result self.new (closed_with self.old (option_copied name.entry) attributes.now thm.now) }
         ensures grows { GrowsIfRefused result self.old self.new }
     {
-        let mut thms = Thms::new(alloc);
-        thms.push(thm.copy(alloc)?)?;
-        if let Some(name) = name {
-            self.push_fact(name.copy()?, thms.copy(alloc)?)?;
-        }
-        self.act(alloc, attributes, thms.as_slice())?;
-        self.push_lemma(thm.copy(alloc)?)?;
+        let last = thm.copy(alloc)?;
+        self.store_named(alloc, name, attributes, thm)?;
+        self.push_lemma(last)?;
         Ok(())
+    }
+
+    /// What is kept of a closed lemma: its theorem, cited by the number of lemmas closed before.
+    fn kept(&self, alloc: Global, general: &Thm) -> Result<Thm, AllocError>
+        requires { general.now.hyps ≡ [] }
+        ensures { IfOk result (λ th. th ≡ cited (length self.now.lemmas) general.now) }
+    {
+        general.cite(alloc, self.closed() as u64)
     }
 
     /// Closes a lemma: answers its theorem with unknowns for its variables, and stores it, cited by the
     /// number of lemmas closed before, where the lemma has a name.
+    #[tactic(auto, using(crate::proofs::Closing::closed_without))]
     pub fn store(
         &mut self,
         alloc: Global,
@@ -64,8 +103,9 @@ impl Context {
     {
         let mark = self.mark()?;
         let general = general(alloc, thm)?;
-        let kept = general.cite(alloc, self.closed() as u64)?;
-        match self.close(alloc, name, &[], &kept) {
+        let kept = self.kept(alloc, &general)?;
+        let none = Attributes::new(alloc);
+        match self.close(alloc, name, none.as_slice(), &kept) {
             Ok(()) => Ok(general),
             Err(_) => {
                 self.undo_to(mark);
@@ -82,8 +122,13 @@ impl Context {
     {
         let mark = self.mark()?;
         let general = general(alloc, thm)?;
-        let kept = general.cite(alloc, self.closed() as u64)?;
-        match self.close(alloc, lemma.name.as_ref(), lemma.attributes.as_slice(), &kept) {
+        let kept = self.kept(alloc, &general)?;
+        match self.close(
+            alloc,
+            lemma.name.as_ref(),
+            lemma.attributes.as_slice(),
+            &kept,
+        ) {
             Ok(()) => Ok(general),
             Err(kind) => {
                 self.undo_to(mark);

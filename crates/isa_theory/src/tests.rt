@@ -53,7 +53,8 @@ fn applies_commands(rt: HostRuntime) -> Result<(), AllocError> {
 }
 
 /// What the tests of roles are declared in.
-const LOGIC: &str = "typedecl o typedecl i judgment J :: \"o => prop\" consts N :: \"o => o\" I :: \"o => o => o\" E :: \"i => i => o\" T :: o ";
+const LOGIC: &str =
+    "typedecl o typedecl i judgment J :: \"o => prop\" consts N :: \"o => o\" I :: \"o => o => o\" E :: \"i => i => o\" T :: o ";
 
 /// Facts that have the form of a role, and facts that lack a part of it.
 #[test]
@@ -68,10 +69,22 @@ fn checks_roles(rt: HostRuntime) -> Result<(), AllocError> {
         ("atomize", "P", "1: wrong form for atomize"),
         ("meta", "P", "1: wrong form for meta"),
         ("swap", "N P ==> (N R ==> P) ==> R", ""),
-        ("swap", "N P ==> (N P ==> P) ==> P", "1: wrong form for swap"),
-        ("swap", "N P ==> (N R ==> R) ==> R", "1: wrong form for swap"),
+        (
+            "swap",
+            "N P ==> (N P ==> P) ==> P",
+            "1: wrong form for swap",
+        ),
+        (
+            "swap",
+            "N P ==> (N R ==> R) ==> R",
+            "1: wrong form for swap",
+        ),
         ("classical", "(N P ==> P) ==> P", ""),
-        ("classical", "(N T ==> T) ==> T", "1: wrong form for classical"),
+        (
+            "classical",
+            "(N T ==> T) ==> T",
+            "1: wrong form for classical",
+        ),
         ("not_elim", "N P ==> P ==> R", ""),
         ("not_elim", "N P ==> R ==> P", "1: wrong form for not_elim"),
         ("mp", "I P Q ==> P ==> Q", ""),
@@ -83,8 +96,9 @@ fn checks_roles(rt: HostRuntime) -> Result<(), AllocError> {
         ("sym", "I P P ==> I P P", "1: wrong form for sym"),
     ] {
         let mut context = Context::new(alloc)?;
-        let text =
-            format!(in alloc; "{LOGIC}axiomatization where r [simp, logic {role}]: \"{prop}\"")?;
+        let text = format!(in alloc;
+            "{LOGIC}axiomatization where r [simp, logic {role}]: \"{prop}\""
+        )?;
         let last = last_refusal(alloc, &mut context, text.as_str())?;
         assert!(rt; last.as_str() == told, "{role}: {prop}: {last}");
         let declared = if told.is_empty() { 2 } else { 0 };
@@ -121,7 +135,10 @@ fn stores_lemmas(rt: HostRuntime) -> Result<(), AllocError> {
                     Ok(_) => String::new(alloc),
                     Err(refused) => format!(in alloc; "{refused}")?,
                 };
-                assert!(rt; told.is_empty() || told.as_str() == "1: wrong form for mp", "{told}");
+                assert!(rt;
+                    told.is_empty() || told.as_str() == "1: wrong form for mp",
+                    "{told}"
+                );
             }
         } else {
             assert!(rt; context.apply(alloc, command).is_ok());

@@ -1,3 +1,4 @@
+use Rattle.isa_theory.proofs.Growing.{grows_on}
 use Rattle.isa_theory.specs.Applying.{WithAxioms, WithAxiomatization, with_labels}
 use Rattle.isa_theory.specs.Told.{IsChecked, IsUnread, IsRead, IsRefused, Leads}
 use Rattle.isa_theory.proofs.Steps.{may_become_refused, then_becomes}
@@ -10,3 +11,6 @@ returns-in_err-add_axioms-clause-becomes c =
 pub returns-clause-becomes : goal.returns-clause-becomes
 returns-clause-becomes c =
     then_becomes (WithAxioms c.args.self.now c.args.axioms.now) (λ d. with_labels d c.args.axioms.now) c.add_axioms.new.self c.declare_labels.new.self c.declare_labels.result c.in_ok-add_axioms.ensures.becomes c.declare_labels.ensures.becomes
+
+pub returns-clause-grows : goal.returns-clause-grows
+returns-clause-grows c = grows_on _ _ _ c.in_ok-add_axioms.ensures.grows c.declare_labels.ensures.grows
