@@ -1,8 +1,5 @@
 pub mod Growing
 pub mod Steps
-pub mod Growing
-pub mod Steps
 pub mod Syntaxes
 pub mod Closing
-pub mod Loops
 pub mod Loops
