@@ -29,6 +29,7 @@ fn applies_commands(rt: HostRuntime) -> Result<(), AllocError> {
         ),
         ("typedecl o typedecl o", "1: duplicate type o"),
         ("typedecl o\njudgment J :: o", "2: types do not agree"),
+        ("typedecl o\njudgment J :: \"o => prop\" judgment K :: \"o => prop\"", "2: duplicate judgment K"),
         ("consts A :: q", "1: unknown type q"),
         (
             "typedecl o\nconsts A :: o A :: o",
@@ -51,6 +52,44 @@ fn applies_commands(rt: HostRuntime) -> Result<(), AllocError> {
     }
     Ok(())
 }
+
+/// Texts behind declarations with notations: what is read, and the first refusal of each kind at the first and the last place.
+#[test]
+fn reads_texts(rt: HostRuntime) -> Result<(), AllocError> {
+    let alloc = rt.alloc();
+    for (text, told) in [
+        ("lemma \"~ a = b & (ALL x. P x)\"", ""),
+        ("schematic_goal \"?P --> ?P\"", ""),
+        ("lemma \"?P\"", "2: unknown ?P in a lemma"),
+        ("axiomatization where a: \"?P\"", "2: unknown ?P in a lemma"),
+        ("consts c :: \"?'a\"", "2: unknown ?'a in a lemma"),
+        ("consts c :: \"i => j\"", "2: unknown type j"),
+        ("consts c :: \"i o\"", "2: wrong number of arguments of o"),
+        ("lemma \"P P\"", "2: types do not agree"),
+        ("lemma \"P $\"", "2: unknown symbol $"),
+        ("lemma \"P &\"", "2: expected term"),
+        ("lemma \"P )\"", "2: expected end of text"),
+        ("consts n :: \"o => o\" (prefix \"~\" 40)", "2: symbol ~ is taken"),
+        ("consts n :: \"o\" (prefix \"n\" 40)", "2: types do not agree"),
+        ("consts n :: \"o => o\" (infix \"n\" 40)", "2: types do not agree"),
+        ("consts n :: \"o => o\" (binder \"n\" 40)", "2: types do not agree"),
+        ("axiomatization where a [logic subst]: \"a = b ==> P a ==> P b\"", ""),
+        (
+            "axiomatization where a [logic subst]: \"a = b ==> P b ==> P a\"",
+            "2: wrong form for subst",
+        ),
+        ("axiomatization where a [logic meta]: \"a = b ==> a == b\"", ""),
+    ] {
+        let mut context = Context::new(alloc)?;
+        let text = format!(in alloc; "{FIRST_ORDER}\n{text}")?;
+        let last = last_refusal(alloc, &mut context, text.as_str())?;
+        assert!(rt; last.as_str() == told, "{text}: {last}");
+    }
+    Ok(())
+}
+
+/// What the tests of texts are read under.
+const FIRST_ORDER: &str = "typedecl o judgment Tr :: \"o => prop\" typedecl i consts Not :: \"o => o\" (prefix \"~\" 40) conj :: \"o => o => o\" (infixr \"&\" 35) imp :: \"o => o => o\" (infixr \"-->\" 25) eq :: \"'a => 'a => o\" (infixl \"=\" 50) All :: \"('a => o) => o\" (binder \"ALL \" 10)";
 
 /// What the tests of roles are declared in.
 const LOGIC: &str =
@@ -122,7 +161,7 @@ fn stores_lemmas(rt: HostRuntime) -> Result<(), AllocError> {
     };
     for command in commands.as_slice() {
         if let Command::Lemma { label, prop, .. } = command {
-            let Ok(lemma) = context.lemma(alloc, label.as_ref(), prop) else {
+            let Ok(lemma) = context.lemma(alloc, false, label.as_ref(), prop) else {
                 assert!(rt; false, "a lemma is not begun");
                 return Ok(());
             };
