@@ -18,6 +18,5 @@ mod tests;
 pub use applying::line_of;
 pub use context::Context;
 pub use declared::Declared;
-pub use isa_texts::Judgment;
 pub use lemma::Lemma;
 pub use options::Options;

@@ -1,5 +1,6 @@
 use crate::context::Context;
 use isa_outer::{Command, read_commands};
+use isa_terms::{Name, Names};
 use std::alloc::{AllocError, Global};
 
 /// The last refusal of a text's commands, with its line; empty where each is taken.
@@ -165,7 +166,9 @@ fn stores_lemmas(rt: HostRuntime) -> Result<(), AllocError> {
                 assert!(rt; false, "a lemma is not begun");
                 return Ok(());
             };
-            let Ok(thms) = context.known_facts(alloc, commands_facts(alloc)?.as_slice()) else {
+            let mut names = Names::new(alloc);
+            names.push(Name::from_text(alloc, "t")?)?;
+            let Ok(thms) = context.known_facts(alloc, names.as_slice()) else {
                 assert!(rt; false, "the axiom is not there");
                 return Ok(());
             };
