@@ -203,12 +203,7 @@ impl Context {
         Ok(all)
     }
 
-    fn declare_theory_type(
-        &mut self,
-        alloc: Global,
-        name: &Name,
-        arity: u32,
-    ) -> Result<(), Kind>
+    fn declare_theory_type(&mut self, alloc: Global, name: &Name, arity: u32) -> Result<(), Kind>
         ensures becomes { Becomes result self.new (declared sort.Type (Constructor name.now arity) (type_refusal self.old.theory name.now) self.old) }
         ensures grows { Grows self.old self.new }
     {

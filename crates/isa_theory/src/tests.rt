@@ -31,7 +31,10 @@ fn applies_commands(rt: HostRuntime) -> Result<(), AllocError> {
         ),
         ("typedecl o typedecl o", "1: duplicate type o"),
         ("typedecl o\njudgment J :: o", "2: types do not agree"),
-        ("typedecl o\njudgment J :: \"o => prop\" judgment K :: \"o => prop\"", "2: duplicate judgment K"),
+        (
+            "typedecl o\njudgment J :: \"o => prop\" judgment K :: \"o => prop\"",
+            "2: duplicate judgment K",
+        ),
         ("consts A :: q", "1: unknown type q"),
         (
             "typedecl o\nconsts A :: o A :: o",
@@ -71,16 +74,34 @@ fn reads_texts(rt: HostRuntime) -> Result<(), AllocError> {
         ("lemma \"P $\"", "2: unknown symbol $"),
         ("lemma \"P &\"", "2: expected term"),
         ("lemma \"P )\"", "2: expected end of text"),
-        ("consts n :: \"o => o\" (prefix \"~\" 40)", "2: symbol ~ is taken"),
-        ("consts n :: \"o\" (prefix \"n\" 40)", "2: types do not agree"),
-        ("consts n :: \"o => o\" (infix \"n\" 40)", "2: types do not agree"),
-        ("consts n :: \"o => o\" (binder \"n\" 40)", "2: types do not agree"),
-        ("axiomatization where a [logic subst]: \"a = b ==> P a ==> P b\"", ""),
+        (
+            "consts n :: \"o => o\" (prefix \"~\" 40)",
+            "2: symbol ~ is taken",
+        ),
+        (
+            "consts n :: \"o\" (prefix \"n\" 40)",
+            "2: types do not agree",
+        ),
+        (
+            "consts n :: \"o => o\" (infix \"n\" 40)",
+            "2: types do not agree",
+        ),
+        (
+            "consts n :: \"o => o\" (binder \"n\" 40)",
+            "2: types do not agree",
+        ),
+        (
+            "axiomatization where a [logic subst]: \"a = b ==> P a ==> P b\"",
+            "",
+        ),
         (
             "axiomatization where a [logic subst]: \"a = b ==> P b ==> P a\"",
             "2: wrong form for subst",
         ),
-        ("axiomatization where a [logic meta]: \"a = b ==> a == b\"", ""),
+        (
+            "axiomatization where a [logic meta]: \"a = b ==> a == b\"",
+            "",
+        ),
     ] {
         let mut context = Context::new(alloc)?;
         let text = format!(in alloc; "{FIRST_ORDER}\n{text}")?;
@@ -91,7 +112,8 @@ fn reads_texts(rt: HostRuntime) -> Result<(), AllocError> {
 }
 
 /// What the tests of texts are read under.
-const FIRST_ORDER: &str = "typedecl o judgment Tr :: \"o => prop\" typedecl i consts Not :: \"o => o\" (prefix \"~\" 40) conj :: \"o => o => o\" (infixr \"&\" 35) imp :: \"o => o => o\" (infixr \"-->\" 25) eq :: \"'a => 'a => o\" (infixl \"=\" 50) All :: \"('a => o) => o\" (binder \"ALL \" 10)";
+const FIRST_ORDER: &str =
+    "typedecl o judgment Tr :: \"o => prop\" typedecl i consts Not :: \"o => o\" (prefix \"~\" 40) conj :: \"o => o => o\" (infixr \"&\" 35) imp :: \"o => o => o\" (infixr \"-->\" 25) eq :: \"'a => 'a => o\" (infixl \"=\" 50) All :: \"('a => o) => o\" (binder \"ALL \" 10)";
 
 /// What the tests of roles are declared in.
 const LOGIC: &str =
