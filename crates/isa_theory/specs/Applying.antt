@@ -104,9 +104,12 @@ WithConstants c ks r = Each WithNewConstant c ks r
 unfoldable pub new_judgment : ContextSeen → List ℕ → Result (Unit {0}) Kind
 new_judgment c x = new_constant c x >>= (λ u. new_name sort.Judgment x (is_some c.syntax.signature.judgment))
 
+abbrev pub predicate_type : Ty → Result (Unit {0}) Kind
+predicate_type T = if is_some (predicate_of T) then Ok tt else Err kind.Types
+
 unfoldable pub judgment_of : ContextSeen → List ℕ → Ty → Result ContextSeen Kind
 judgment_of c x T = do
-  u ← if is_some (predicate_of T) then Ok tt else Err kind.Types
+  u ← predicate_type T
   d ← with_constant c x (general_type T)
   in_syntax d (syntax.with_judgment d.syntax x)
 
