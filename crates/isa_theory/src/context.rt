@@ -42,9 +42,11 @@ pub struct Context {
 }
 
 impl Model for Context {
-    ghost use Rattle.isa_theory.specs.Contexts.{ContextSeen};
+    ghost use Rattle.isa_theory.specs.Contexts.{ContextSeen, context_code};
 
     ghost Value = { ContextSeen };
+
+    ghost coded = { context_code };
 
     ghost view = { λ c. record { theory = c.theory; syntax = c.syntax; facts = c.facts.entries; declarations = c.declarations.items; logic = c.logic.value; options = c.options; lemmas = c.lemmas.items } };
 }
