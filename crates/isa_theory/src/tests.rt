@@ -1,6 +1,7 @@
 use crate::context::Context;
+use crate::lemma::Lemma;
+use isa_kernel::{Thm, assume, implies_intr};
 use isa_outer::{Command, read_commands};
-use isa_terms::{Name, Names};
 use std::alloc::{AllocError, Global};
 
 /// The last refusal of a text's commands, with its line; empty where each is taken.
@@ -108,47 +109,66 @@ fn checks_roles(rt: HostRuntime) -> Result<(), AllocError> {
     Ok(())
 }
 
-/// A lemma's theorem is kept under its name as one that is cited, and its attributes act when it is stored.
-#[test]
-fn stores_lemmas(rt: HostRuntime) -> Result<(), AllocError> {
-    let alloc = rt.alloc();
-    let mut context = Context::new(alloc)?;
-    let told = last_refusal(alloc, &mut context, LOGIC)?;
-    assert!(rt; told.is_empty(), "{told}");
-    let Ok(commands) = read_commands(
-        alloc,
-        b"axiomatization where t: T lemma u [logic close]: T lemma v [simp, logic mp]: T lemma T",
-    ) else {
-        return Ok(());
+/// The first lemma that the text begins.
+fn begun(alloc: Global, context: &Context, text: &str) -> Result<Option<Lemma>, AllocError> {
+    let Ok(commands) = read_commands(alloc, text.as_bytes()) else {
+        return Ok(None);
     };
     for command in commands.as_slice() {
         if let Command::Lemma { label, prop, .. } = command {
-            let Ok(lemma) = context.lemma(alloc, label.as_ref(), prop) else {
-                assert!(rt; false, "a lemma is not begun");
-                return Ok(());
-            };
-            let mut names = Names::new(alloc);
-            names.push(Name::from_text(alloc, "t")?)?;
-            let Ok(thms) = context.known_facts(alloc, names.as_slice()) else {
-                assert!(rt; false, "the axiom is not there");
-                return Ok(());
-            };
-            for thm in thms.as_slice() {
-                let told = match context.store_lemma(alloc, &lemma, thm) {
-                    Ok(_) => String::new(alloc),
-                    Err(refused) => format!(in alloc; "{refused}")?,
-                };
-                assert!(rt;
-                    told.is_empty() || told.as_str() == "1: wrong form for mp",
-                    "{told}"
-                );
-            }
-        } else {
-            assert!(rt; context.apply(alloc, command).is_ok());
+            return Ok(context.lemma(alloc, label.as_ref(), prop).ok());
         }
     }
-    assert!(rt; context.lemmas().len() == 2);
-    assert!(rt; context.declarations().len() == 1);
-    assert!(rt; context.logic().close.len() == 1);
+    Ok(None)
+}
+
+/// Closes a lemma of a new name with a theorem: the refusal, empty where the lemma is stored.
+fn closing(
+    alloc: Global,
+    context: &mut Context,
+    lemma: &Lemma,
+    thm: &Thm,
+) -> Result<String, AllocError> {
+    let Some(name) = &lemma.name else {
+        return String::from_str(alloc, "no name");
+    };
+    if context.fact(name).is_some() {
+        return String::from_str(alloc, "no new name");
+    }
+    if !thm.hyps().as_slice().is_empty() {
+        return String::from_str(alloc, "hypotheses");
+    }
+    match context.store_lemma(alloc, lemma, thm) {
+        Ok(_) => Ok(String::new(alloc)),
+        Err(refused) => format!(in alloc; "{refused}"),
+    }
+}
+
+/// A lemma's attributes act when it is stored; one that is refused then is not stored.
+#[test]
+fn stores_lemmas(rt: HostRuntime) -> Result<(), AllocError> {
+    let alloc = rt.alloc();
+    for (text, told, closed) in [
+        ("lemma u [logic atomize]: T", "", 1),
+        ("lemma v [simp, logic mp]: T", "1: wrong form for mp", 0),
+    ] {
+        let mut context = Context::new(alloc)?;
+        last_refusal(alloc, &mut context, LOGIC)?;
+        let Some(lemma) = begun(alloc, &context, text)? else {
+            assert!(rt; false, "{text}");
+            return Ok(());
+        };
+        let Ok(thm) = assume(alloc, &lemma.goal) else {
+            assert!(rt; false, "{text}");
+            return Ok(());
+        };
+        let Ok(thm) = implies_intr(alloc, &lemma.goal, &thm) else {
+            assert!(rt; false, "{text}");
+            return Ok(());
+        };
+        let last = closing(alloc, &mut context, &lemma, &thm)?;
+        assert!(rt; last.as_str() == told, "{text}: {last}");
+        assert!(rt; context.lemmas().len() == closed, "{text}");
+    }
     Ok(())
 }
