@@ -1,6 +1,8 @@
-pub mod TakenLemmas
+pub mod Standing
+pub mod AskLemmas
+pub mod Grounding
+pub mod Sessions
+pub mod Soundness
 pub mod Printing
 pub mod InputLemmas
-pub mod SoundLemmas
-pub mod MatchLemmas
 pub mod CauseLemmas

@@ -1,20 +1,26 @@
--- When a run answers 64, and 4.
+-- When a run answers 64, and 4: laws of what it answers over any files.
 -- Source: this project; 64 is `EX_USAGE` of BSD's sysexits.
 use Rattle.std.specs.Prelude.{◌≡◌, ◌≢◌, ◌⊎◌, ℕ, ◌<◌, false, List, [], ◌∷◌, None, IsSomeAnd}
 use Rattle.isa_io.specs.FilesSeen.{FilesSeen, Texts, text_of}
-use Rattle.isaprove.specs.Run.{is_reading}
+use Rattle.isaprove.specs.Sinks.{Sinks}
+use Rattle.isaprove.specs.Inputs.{AnswersAny}
+use Rattle.isaprove.specs.Run.{is_reading, file_words}
 
 -- The answer 64 comes exactly where the words have no reading. Faults of the sinks and want of memory have their own answers.
 pub record IsUsage (words : List (List ℕ)) (answer : ℕ) : Type 0 where
   pub only : answer ≡ 64 → is_reading words ≡ false
   pub always : is_reading words ≡ false → answer ≢ 5 → answer ≢ 6 → answer ≡ 64
 
--- no text has the name of one of the words
+-- no text has the name of one of these
 abbrev pub SomeAbsent : Texts → List (List ℕ) → Type 0
 SomeAbsent texts [] = ⊥
-SomeAbsent texts (word ∷ words) = (text_of texts word ≡ None) ⊎ SomeAbsent texts words
+SomeAbsent texts (name ∷ names) = (text_of texts name ≡ None) ⊎ SomeAbsent texts names
 
 -- the answer 4 comes only where the files' count of faults rose, or where the texts are told and none has the name of a word
 abbrev pub IsReadFault : List (List ℕ) → FilesSeen → FilesSeen → ℕ → Type 0
 IsReadFault words before now answer =
-    answer ≡ 4 → (before.faults < now.faults) ⊎ IsSomeAnd before.texts (λ texts. SomeAbsent texts words)
+    answer ≡ 4 → (before.faults < now.faults) ⊎ IsSomeAnd before.texts (λ texts. SomeAbsent texts (file_words words))
+
+-- each answer over any files has these causes
+abbrev pub AnswersHaveCauses : Type 0
+AnswersHaveCauses = (words : List (List ℕ)) (before now : FilesSeen) (answer : ℕ) (a b : Sinks) → AnswersAny words before now answer a b → IsUsage words answer × IsReadFault words before now answer
