@@ -18,6 +18,7 @@ use Rattle.isaprove.specs.Part.{Part, End, Goes, Stops, after, next, go_on, pass
 use Rattle.isaprove.specs.Run.{run_command, run_commands, run_whole, run_read, run_text, close_text, part_of, failed, skipping, failure_line, refusal_line}
 use Rattle.isaprove.specs.Run as runs
 use Rattle.std.proofs.lemmas.List.{drop_more}
+use Rattle.std.proofs.Math.Seq.{take-nil}
 use Rattle.isaprove.specs.Printed.{WritesBytes, Writes, NoFault, Rose, All, Front, CutShort}
 use Rattle.isaprove.specs.Does.{Does, Passes, StopsAt, Puts, Shows, ShowsIfSome, Tells, StopsWith}
 use Rattle.isaprove.specs.Steps.{Next}
@@ -43,6 +44,10 @@ Written before now bytes = Appends before.written now.written bytes
 
 alone : (before now : SinkSeen) (bytes : List ℕ) → Written before now bytes → Written before now (bytes ++ [])
 alone before now bytes w = subst (λ (bs : List ℕ). Written before now bs) (sym (append-nil bytes)) w
+
+-- no bytes, whatever count of them was written
+none_cut : (x : SinkSeen) (n : ℕ) → Written x x (take n [])
+none_cut x n = subst (λ (bs : List ℕ). Written x x bs) (sym (take-nil n)) (Appends-nil x.written)
 
 -- nothing was written
 nothing_written : (a : Sinks) → WritesBytes a a [] []
@@ -74,7 +79,7 @@ cut_out out now err shows p =
       count = p.count;
       rest = [];
       split = refl;
-      writes = record { out = p.written; err = Appends-nil err.written };
+      writes = record { out = p.written; err = none_cut err p.count };
     }
 
 -- a piece for err was written, or cut short
@@ -94,7 +99,7 @@ cut_err out err now bytes p =
       count = p.count;
       rest = [];
       split = refl;
-      writes = record { out = Appends-nil out.written; err = p.written };
+      writes = record { out = none_cut out p.count; err = p.written };
     }
 
 -- the bytes of a piece were printed
@@ -345,30 +350,37 @@ pub not_memory : (k : Kind) → is_memory k ≡ false → k ≢ kind.Memory
 not_memory k f e = absurd (let memory : is_memory k ≡ true = ap is_memory e in cc (f, memory))
 
 -- ---- failures
-pub failure_kept : (file : List ℕ) (line : ℕ) (p q : Progress) (failure : Failure) (a b : Sinks) → p.keeps_on ≡ true → q ≡ skipping p failure → All a b (ToErr (failure_line file line failure) ∷ []) → Passes (failed file line p failure) q a b
-failure_kept file line p q failure a b k e w =
+-- the line of a failure was told, and the run goes on
+pub failure_kept : (file : List ℕ) (line : ℕ) (p q : Progress) (failure : Failure) (bytes : List ℕ) (a b : Sinks) → bytes ≡ failure_line file line failure → p.keeps_on ≡ true → q ≡ skipping p failure → All a b (ToErr bytes ∷ []) → Passes (failed file line p failure) q a b
+failure_kept file line p q failure bytes a b l k e w =
     subst (λ (x : Bool). Passes (cond x (tell (failure_line file line failure) (skipping p failure)) (stop (status.Failed failure) (failure_line file line failure))) q a b) (sym k)
-    (ap Goes (sym e), w)
+    (ap Goes (sym e), subst (λ (bs : List ℕ). All a b (ToErr bs ∷ [])) l w)
 
-pub failure_told : (file : List ℕ) (line : ℕ) (p : Progress) (failure : Failure) (a b : Sinks) → p.keeps_on ≡ false → All a b (ToErr (failure_line file line failure) ∷ []) → StopsAt (failed file line p failure) (stops.Ended (status.Failed failure)) a b
-failure_told file line p failure a b k w =
+-- and it stops
+pub failure_told : (file : List ℕ) (line : ℕ) (p : Progress) (failure : Failure) (bytes : List ℕ) (a b : Sinks) → bytes ≡ failure_line file line failure → p.keeps_on ≡ false → All a b (ToErr bytes ∷ []) → StopsAt (failed file line p failure) (stops.Ended (status.Failed failure)) a b
+failure_told file line p failure bytes a b l k w =
     subst (λ (x : Bool). StopsAt (cond x (tell (failure_line file line failure) (skipping p failure)) (stop (status.Failed failure) (failure_line file line failure))) (stops.Ended (status.Failed failure)) a b) (sym k)
-    (refl, w)
+    (refl, subst (λ (bs : List ℕ). All a b (ToErr bs ∷ [])) l w)
 
 failed_end : (file : List ℕ) (line : ℕ) (p : Progress) (failure : Failure) (x : Bool) → (end : End) × (cond x (tell (failure_line file line failure) (skipping p failure)) (stop (status.Failed failure) (failure_line file line failure)) ≡ record { pieces = ToErr (failure_line file line failure) ∷ []; end = end })
 failed_end file line p failure true = (Goes (skipping p failure), refl)
 failed_end file line p failure false = (Stops (status.Failed failure), refl)
 
--- the line of a failure was not told to its end
-pub failure_stopped : {S T : Type 0} (file : List ℕ) (line : ℕ) (p q : Progress) (failure : Failure) (r : Result T Stop) (s : Stop) (a b : Sinks) → IsErrAnd r (λ e. e ≡ s) → Puts {T = S} (ToErr (failure_line file line failure)) (Err s) a b → Does (failed file line p failure) r q a b
-failure_stopped {S} {T} file line p q failure r s a b i h =
+-- it was not told to its end
+pub failure_stopped : {S T : Type 0} (file : List ℕ) (line : ℕ) (p q : Progress) (failure : Failure) (bytes : List ℕ) (r : Result T Stop) (s : Stop) (a b : Sinks) → bytes ≡ failure_line file line failure → IsErrAnd r (λ e. e ≡ s) → Puts {T = S} (ToErr bytes) (Err s) a b → Does (failed file line p failure) r q a b
+failure_stopped {S} {T} file line p q failure bytes r s a b l i h =
     let end = failed_end file line p failure p.keeps_on in
+    let put : Puts {T = S} (ToErr (failure_line file line failure)) (Err s) a b = subst (λ (bs : List ℕ). Puts {T = S} (ToErr bs) (Err s) a b) l h in
     returns_stop (failed file line p failure) r s q a b i
-    (subst (λ (x : Part). StopsAt x s a b) (sym end.1) (piece_stopped {T = S} (ToErr (failure_line file line failure)) s end.0 a b h))
+    (subst (λ (x : Part). StopsAt x s a b) (sym end.1) (piece_stopped {T = S} (ToErr (failure_line file line failure)) s end.0 a b put))
 
--- a line that stops the run was not told to its end
-pub line_stopped : {S T : Type 0} (st : Status) (line : List ℕ) (r : Result T Stop) (s : Stop) (a b : Sinks) → IsErrAnd r (λ e. e ≡ s) → Puts {T = S} (ToErr line) (Err s) a b → StopsWith (stop st line) r a b
-line_stopped {S} {T} st line r s a b i h = returns_stops (stop st line) r s a b i (piece_stopped {T = S} (ToErr line) s (Stops st) a b h)
+-- a line that stops the run was told, or not to its end
+pub line_told : (st : Status) (line bytes : List ℕ) (a b : Sinks) → bytes ≡ line → All a b (ToErr bytes ∷ []) → StopsAt (stop st line) (stops.Ended st) a b
+line_told st line bytes a b l w = (refl, subst (λ (bs : List ℕ). All a b (ToErr bs ∷ [])) l w)
+
+pub line_stopped : {S T : Type 0} (st : Status) (line bytes : List ℕ) (r : Result T Stop) (s : Stop) (a b : Sinks) → bytes ≡ line → IsErrAnd r (λ e. e ≡ s) → Puts {T = S} (ToErr bytes) (Err s) a b → StopsWith (stop st line) r a b
+line_stopped {S} {T} st line bytes r s a b l i h =
+    returns_stops (stop st line) r s a b i (piece_stopped {T = S} (ToErr line) s (Stops st) a b (subst (λ (bs : List ℕ). Puts {T = S} (ToErr bs) (Err s) a b) l h))
 
 -- ---- texts
 abbrev pub closing : List ℕ → Progress → Part

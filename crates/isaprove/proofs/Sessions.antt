@@ -119,8 +119,8 @@ unbuilt_not {A} c m a e = let u = bind_ok (all_known c (method_facts m)) _ e in 
 
 -- what a method tries is `match` with kept rules
 record IsMatching (ax : List Tm) (tried : Tried) : Type 0 where
-  kept : TriedKept ax tried
-  askable : Askable tried 0
+  pub kept : TriedKept ax tried
+  pub askable : Askable tried 0
 
 tried_with_kept : (c : ContextSeen) (m : Method) (o : Option (List (List ℕ))) (tried : Tried) → IsGrounded c → tried_with c m o ≡ Ok tried → IsMatching (axioms_of c.theory) tried
 unfolding Askable

@@ -23,8 +23,8 @@ EndKept (Goes p) = SessionKept p.session
 EndKept (Stops s) = Unit {0}
 
 record PartKept (part : Part) : Type 0 where
-  sound : AreSound part.pieces
-  end : EndKept part.end
+  pub sound : AreSound part.pieces
+  pub end : EndKept part.end
 
 AreSound-append : (ps qs : List Piece) → AreSound ps → AreSound qs → AreSound (ps ++ qs)
 AreSound-append [] qs p q = q

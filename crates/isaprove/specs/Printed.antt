@@ -9,9 +9,9 @@ use Rattle.isaprove.specs.Run.{answer_of}
 use Rattle.isaprove.specs.Sound.{AreSound}
 
 -- these bytes were written, and nothing else
-pub record WritesBytes (before after : Sinks) (out err : List ℕ) : Type 0 where
-  pub out : Appends before.out.written after.out.written out
-  pub err : Appends before.err.written after.err.written err
+pub record WritesBytes (before after : Sinks) (to_out to_err : List ℕ) : Type 0 where
+  pub out : Appends before.out.written after.out.written to_out
+  pub err : Appends before.err.written after.err.written to_err
 
 -- these pieces were written, and nothing else
 abbrev pub Writes : Sinks → Sinks → List Piece → Type 0

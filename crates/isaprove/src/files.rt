@@ -45,7 +45,7 @@ fn read_input<F: Files>(alloc: Global, name: &str, files: &mut F) -> Result<Read
 }
 
 /// Tells a text about a whole file, and stops the run.
-#[tactic(auto, using(crate::proofs::Printing::line_stopped, crate::proofs::Printing::memory_stops))]
+#[tactic(auto, using(crate::proofs::Printing::line_told, crate::proofs::Printing::line_stopped, crate::proofs::Printing::memory_stops))]
 fn refuse_file<O: Sink, E: Sink>(
     alloc: Global,
     name: &str,

@@ -36,6 +36,7 @@ fn failure_text(alloc: Global, failure: Failure) -> Result<String, AllocError>
 }
 
 /// `FILE:LINE: ` and why a method gave no state, with a line feed.
+#[tactic(auto, unfolding(crate::specs::Run::failure_line))]
 pub fn failure_line(
     alloc: Global,
     file: &str,
@@ -53,6 +54,7 @@ pub fn failure_line(
 }
 
 /// `FILE:LINE: ` and the text of a refusal, with a line feed.
+#[tactic(auto, unfolding(crate::specs::Run::refusal_line))]
 pub fn refusal_line(
     alloc: Global,
     file: &str,

@@ -83,7 +83,7 @@ fn fail<O: Sink, E: Sink>(
 }
 
 /// Tells a refusal, and stops the run. Want of memory is not told.
-#[tactic(auto, using(crate::proofs::Printing::line_stopped, crate::proofs::Printing::memory_stops))]
+#[tactic(auto, using(crate::proofs::Printing::line_told, crate::proofs::Printing::line_stopped, crate::proofs::Printing::memory_stops))]
 fn refuse<O: Sink, E: Sink>(
     alloc: Global,
     file: &str,

@@ -129,13 +129,11 @@ pub fn run<F: Files, O: Sink, E: Sink>(
 }
 
 /// What a run shows is sound.
-#[tactic(auto, using(crate::proofs::Soundness::runs_sound))]
 pub fn runs_are_sound()
     ensures { RunsAreSound }
 {}
 
 /// The causes of the answers 64 and 4.
-#[tactic(auto, using(crate::proofs::CauseLemmas::causes))]
 pub fn answers_have_causes()
     ensures { AnswersHaveCauses }
 {}
