@@ -97,3 +97,6 @@ found_next ax s t (suc k) o (found.Res u ∷ fs) a e = found_next ax s t k o fs 
 
 pub opening_zero : (s : Goals) (k : ℕ) → k ≡ 0 → answer_at Opening s k ≡ State s
 opening_zero s k h = ap (λ (n : ℕ). answer_at Opening s n) h ∙ opening_first s
+
+pub opening_copied : (s t : Goals) (k : ℕ) → t ≡ s → k ≡ 0 → State t ≡ answer_at Opening s k
+opening_copied s t k e h = sym (subst (λ (u : Goals). answer_at Opening s k ≡ State u) (sym e) (opening_zero s k h))

@@ -2,6 +2,7 @@ pub mod Standing
 pub mod AskLemmas
 pub mod Grounding
 pub mod Sessions
+pub mod Finishing
 pub mod Soundness
 pub mod Printing
 pub mod InputLemmas
