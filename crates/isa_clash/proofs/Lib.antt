@@ -1,0 +1,3 @@
+pub mod Lifted
+pub mod Unifying
+pub mod Matching
