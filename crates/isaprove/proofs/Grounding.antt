@@ -30,14 +30,17 @@ use Rattle.isa_outer.specs.declared.command.Constant.{Constant as NewConstant}
 use Rattle.isa_outer.specs.declared.command.Label.{Label}
 use Rattle.isa_outer.specs.declared.command.Axiom.{Axiom as NewAxiom}
 use Rattle.isa_outer.specs.declared.command.Declaration.{Declaration as Declared}
+use Rattle.isa_outer.specs.declared.command.Attribute.{Attribute}
+use Rattle.isa_outer.specs.declared.command.Setting.{Setting}
 use Rattle.isa_outer.specs.declared.command.Command.{Command}
 use Rattle.isa_outer.specs.declared.command.Command.TheVariants as command
 use Rattle.isa_texts.specs.declared.signature.Variables.TheVariants as variables
-use Rattle.isa_theory.specs.Contexts.{ContextSeen, fact_of, signature_of}
+use Rattle.isa_theory.specs.Contexts.{ContextSeen, fact_of, judgment_name, signature_of}
 use Rattle.isa_theory.specs.MethodFacts.{method_facts}
 use Rattle.isa_theory.specs.Reading.{read_type, read_prop}
-use Rattle.isa_theory.specs.Results.{◌>>=◌, or_refused}
-use Rattle.isa_theory.specs.Applying.{kind_of, declared, unless_built, new_name, with_type, with_constant, with_typed, new_constant, with_new_constant, with_constants, have_notation, with_consts, judged, with_judgment, with_fact, new_fact, known_fact, known_facts, all_known, axiom_fact, with_axiom, with_axioms, have_attributes, with_axiomatization, is_some_list, with_lemmas, declared_facts, are_declared, with_declarations, with_wrapper, goal_of, with_goal, applied}
+use Rattle.isa_theory.specs.Options.{with_setting}
+use Rattle.isa_theory.specs.Results.{◌>>=◌, each, or_refused}
+use Rattle.isa_theory.specs.Applying.{kind_of, declared, unless_built, new_name, with_type, with_constant, with_typed, new_constant, with_new_constant, with_constants, have_notation, with_consts, judged, with_judgment, with_fact, new_fact, known_fact, known_facts, all_known, axiom_fact, with_axiom, with_axioms, logic_with, with_attribute, with_attribute_on, with_attributes, with_declared, with_labels, with_axiomatization, with_lemmas, declared_facts, with_each_declared, with_declarations, with_option, with_wrapper, prop_of, with_goal, applied}
 use Rattle.isaprove.specs.Sound.{axioms_of}
 use Rattle.isaprove.proofs.Standing.{Within-trans, IsKept, AreKept}
 
@@ -53,6 +56,13 @@ some_ok k (Some x) e = cc (e)
 built_ok : {A : Type 0} (b : Bool) (a : A) {e : A} → cond b (Err kind.NotBuilt) (Ok a) ≡ Ok e → a ≡ e
 built_ok true a h = absurd (cc (h))
 built_ok false a h = cc (h)
+
+-- ---- steps for each item
+each_keeps : {A B : Type 0} (P : A → Type 0) (f : A → B → Result A Kind) (a : A) (bs : List B) (e : A) → ((a : A) (b : B) (e : A) → P a → f a b ≡ Ok e → P e) → P a → each f a bs ≡ Ok e → P e
+each_keeps P f a [] e k p h = let same : a ≡ e = cc (h) in subst P same p
+each_keeps P f a (b ∷ bs) e k p h =
+    let d = bind_ok (f a b) _ h in
+    each_keeps P f d.0 bs e k (k a b d.0 p d.1) d.2
 
 -- ---- more axioms
 kept_more : (ax bx : List Tm) (th : Theorem) → Within ax bx → IsKept ax th → IsKept bx th
@@ -135,10 +145,7 @@ new_constant_grounded c x text e g h =
     subst (λ (d : ContextSeen). IsGrounded d) same (typed_grounded c x text p.0 g p.1)
 
 constants_grounded : (c : ContextSeen) (ks : List NewConstant) (e : ContextSeen) → IsGrounded c → with_constants c ks ≡ Ok e → IsGrounded e
-constants_grounded c [] e g h = let same : c ≡ e = cc (h) in subst (λ (d : ContextSeen). IsGrounded d) same g
-constants_grounded c (k ∷ ks) e g h =
-    let d = bind_ok (with_new_constant c k.name k.typ) _ h in
-    constants_grounded d.0 ks e (new_constant_grounded c k.name k.typ d.0 g d.1) d.2
+constants_grounded c ks e g h = each_keeps (λ d. IsGrounded d) (λ d k. with_new_constant d k.name k.typ) c ks e (λ d k e. new_constant_grounded d k.name k.typ e) g h
 
 consts_grounded : (c : ContextSeen) (ks : List NewConstant) (e : ContextSeen) → IsGrounded c → with_consts c ks ≡ Ok e → IsGrounded e
 unfolding with_consts
@@ -245,29 +252,61 @@ axiom_grounded c x text e g h =
     subst (λ (y : ContextSeen). IsGrounded y) same (fact_grounded d.0 x (th.0 ∷ []) gd (axiom_fact_kept d.0 x th.0 gd th.1, tt))
 
 axioms_grounded : (c : ContextSeen) (axioms : List NewAxiom) (e : ContextSeen) → IsGrounded c → with_axioms c axioms ≡ Ok e → IsGrounded e
-axioms_grounded c [] e g h = let same : c ≡ e = cc (h) in subst (λ (d : ContextSeen). IsGrounded d) same g
-axioms_grounded c (a ∷ more) e g h =
-    let d = bind_ok (with_axiom c a.label.name a.prop) _ h in
-    axioms_grounded d.0 more e (axiom_grounded c a.label.name a.prop d.0 g d.1) d.2
+axioms_grounded c axioms e g h = each_keeps (λ d. IsGrounded d) (λ d a. with_axiom d a.label.name a.prop) c axioms e (λ d a e. axiom_grounded d a.label.name a.prop e) g h
+
+-- ---- attributes change neither the axioms nor the facts
+attribute_grounded : (c : ContextSeen) (a : Attribute) (th : Theorem) (e : ContextSeen) → IsGrounded c → with_attribute c a th ≡ Ok e → IsGrounded e
+unfolding with_attribute
+attribute_grounded c a th e g h =
+    let l = bind_ok (logic_with (judgment_name c.judgment) c.logic a th) _ h in
+    let same : record c { declarations = c.declarations ++ record { attribute = a; thm = th } ∷ []; logic = l.0 } ≡ e = cc (l.2) in
+    subst (λ (d : ContextSeen). IsGrounded d) same (record { props = g.props; facts = g.facts })
+
+attribute_on_grounded : (c : ContextSeen) (ths : List Theorem) (a : Attribute) (e : ContextSeen) → IsGrounded c → with_attribute_on c ths a ≡ Ok e → IsGrounded e
+unfolding with_attribute_on
+attribute_on_grounded c ths a e g h = each_keeps (λ d. IsGrounded d) (λ d th. with_attribute d a th) c ths e (λ d th e. attribute_grounded d a th e) g h
+
+attributes_grounded : (c : ContextSeen) (as : List Attribute) (ths : List Theorem) (e : ContextSeen) → IsGrounded c → with_attributes c as ths ≡ Ok e → IsGrounded e
+unfolding with_attributes
+attributes_grounded c as ths e g h = each_keeps (λ d. IsGrounded d) (λ d a. with_attribute_on d ths a) c as e (λ d a e. attribute_on_grounded d ths a e) g h
+
+fact_declared_grounded : (c : ContextSeen) (x : List ℕ) (as : List Attribute) (e : ContextSeen) → IsGrounded c → with_declared c x as ≡ Ok e → IsGrounded e
+unfolding with_declared
+fact_declared_grounded c x as e g h =
+    let ths = bind_ok (known_fact c x) _ h in
+    attributes_grounded c as ths.0 e g ths.2
+
+labels_grounded : (c : ContextSeen) (axioms : List NewAxiom) (e : ContextSeen) → IsGrounded c → with_labels c axioms ≡ Ok e → IsGrounded e
+labels_grounded c axioms e g h = each_keeps (λ d. IsGrounded d) (λ d a. with_declared d a.label.name a.label.attributes) c axioms e (λ d a e. fact_declared_grounded d a.label.name a.label.attributes e) g h
+
+each_declared_grounded : (c : ContextSeen) (ds : List Declared) (e : ContextSeen) → IsGrounded c → with_each_declared c ds ≡ Ok e → IsGrounded e
+each_declared_grounded c ds e g h = each_keeps (λ d. IsGrounded d) (λ e d. with_declared e d.fact d.attributes) c ds e (λ c d e. fact_declared_grounded c d.fact d.attributes e) g h
 
 axiomatization_grounded : (c : ContextSeen) (axioms : List NewAxiom) (e : ContextSeen) → IsGrounded c → with_axiomatization c axioms ≡ Ok e → IsGrounded e
 unfolding with_axiomatization
 axiomatization_grounded c axioms e g h =
     let d = bind_ok (with_axioms c axioms) _ h in
-    subst (λ (x : ContextSeen). IsGrounded x) (built_ok (have_attributes axioms) d.0 d.2) (axioms_grounded c axioms d.0 g d.1)
+    labels_grounded d.0 axioms e (axioms_grounded c axioms d.0 g d.1) d.2
 
 lemmas_grounded : (c : ContextSeen) (label : Label) (xs : List (List ℕ)) (e : ContextSeen) → IsGrounded c → with_lemmas c label xs ≡ Ok e → IsGrounded e
 unfolding with_lemmas
 lemmas_grounded c label xs e g h =
     let u = bind_ok (new_fact c label.name) _ h in
     let t = bind_ok (known_facts c xs) _ u.2 in
-    subst (λ (d : ContextSeen). IsGrounded d) (built_ok (is_some_list label.attributes) (with_fact c label.name t.0) t.2) (fact_grounded c label.name t.0 g (known_kept c xs t.0 g t.1))
+    attributes_grounded (with_fact c label.name t.0) label.attributes t.0 e (fact_grounded c label.name t.0 g (known_kept c xs t.0 g t.1)) t.2
 
 declarations_grounded : (c : ContextSeen) (ds : List Declared) (e : ContextSeen) → IsGrounded c → with_declarations c ds ≡ Ok e → IsGrounded e
 unfolding with_declarations
 declarations_grounded c ds e g h =
     let u = bind_ok (all_known c (declared_facts ds)) _ h in
-    subst (λ (d : ContextSeen). IsGrounded d) (built_ok (are_declared ds) c u.2) g
+    each_declared_grounded c ds e g u.2
+
+option_grounded : (c : ContextSeen) (setting : Setting) (e : ContextSeen) → IsGrounded c → with_option c setting ≡ Ok e → IsGrounded e
+unfolding with_option
+option_grounded c setting e g h =
+    let o = bind_ok (with_setting c.options setting) _ h in
+    let same : record c { options = o.0 } ≡ e = cc (o.2) in
+    subst (λ (d : ContextSeen). IsGrounded d) same (record { props = g.props; facts = g.facts })
 
 wrapper_grounded : (c : ContextSeen) (xs : List (List ℕ)) (e : ContextSeen) → with_wrapper c xs ≡ Ok e → IsGrounded e
 unfolding with_wrapper
@@ -276,7 +315,7 @@ wrapper_grounded c xs e h = let u = bind_ok (all_known c xs) _ h in absurd (cc (
 goal_grounded : (c : ContextSeen) (label : Option Label) (text : Inner) (e : ContextSeen) → IsGrounded c → with_goal c label text ≡ Ok e → IsGrounded e
 unfolding with_goal
 goal_grounded c label text e g h =
-    let p = bind_ok (goal_of c label text) _ h in
+    let p = bind_ok (prop_of c label text) _ h in
     let same : c ≡ e = cc (p.2) in
     subst (λ (d : ContextSeen). IsGrounded d) same g
 
@@ -291,7 +330,7 @@ applied_grounded c (command.Lemma line label text) e g h = goal_grounded c label
 applied_grounded c (command.SchematicGoal line label text) e g h = goal_grounded c label text e g h
 applied_grounded c (command.Lemmas line label xs) e g h = lemmas_grounded c label xs e g h
 applied_grounded c (command.Declare line ds) e g h = declarations_grounded c ds e g h
-applied_grounded c (command.DeclareOption line setting) e g h = absurd (cc (h))
+applied_grounded c (command.DeclareOption line setting) e g h = option_grounded c setting e g h
 applied_grounded c (command.Wrapper line safe before x m) e g h = wrapper_grounded c (method_facts m) e h
 applied_grounded c (command.Apply line m) e g h = absurd (cc (h))
 applied_grounded c (command.By line m) e g h = absurd (cc (h))

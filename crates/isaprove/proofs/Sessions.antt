@@ -1,13 +1,18 @@
 -- What each command shows is sound, and its session stays so.
-use Rattle.std.proofs.Common.{◌≡◌, ℕ, zero, suc, ◌+◌, ◌<◌, List, [], ◌∷◌, ◌++◌, map, Bool, true, false, ◌&&◌, not, cond, Option, Some, None, Ok, Err, refl, sym, ap, subst, ◌∙◌, arith}
+use Rattle.std.proofs.Common.{◌≡◌, ℕ, zero, suc, ◌+◌, ◌<◌, List, [], ◌∷◌, ◌++◌, map, length, Bool, true, false, ◌&&◌, not, cond, Option, Some, None, Ok, Err, refl, sym, ap, subst, ◌∙◌, arith}
 use Rattle.std.specs.Prelude.{option_map, is_some}
 use Rattle.std.specs.declared.result.Result.{Result}
 use Rattle.isa_terms.specs.Terms.{Tm, bare}
-use Rattle.isa_kernel.specs.Axioms.{propositions}
+use Rattle.isa_kernel.specs.Axioms.{propositions, axioms_of as axioms_of_base}
+use Rattle.isa_kernel.specs.declared.axioms.NamedProp.{NamedProp}
+use Rattle.isa_kernel.proofs.Members.{cite_axioms}
+use Rattle.isa_kernel.proofs.Recorded.{cited_sound}
 use Rattle.isa_kernel.specs.Derivation.{Derives, Within}
 use Rattle.isa_kernel.specs.Theorem.{Theorem, IsDerived}
+use Rattle.isa_kernel.specs.Citing.{cited}
 use Rattle.isa_kernel.proofs.Generals.{generalized_sound}
 use Rattle.isa_subgoal.specs.Premises.{implies}
+use Rattle.isa_goal.specs.Counted.{has_counted}
 use Rattle.isa_goal.specs.Goals.{Goals, IsStanding, started, has_parameter}
 use Rattle.isa_goal.specs.Names.{canon}
 use Rattle.isa_goal.specs.Resolving.{results, all_first_order}
@@ -19,12 +24,14 @@ use Rattle.isa_outer.specs.declared.command.Command.{Command}
 use Rattle.isa_outer.specs.declared.command.Command.TheVariants as command
 use Rattle.isa_outer.specs.declared.command.Label.{Label}
 use Rattle.isa_outer.specs.declared.command.Inner.{Inner}
+use Rattle.isa_outer.specs.declared.command.Setting.{Setting}
 use Rattle.isa_outer.specs.Methods.{Method}
 use Rattle.isa_theory.specs.Results.{◌>>=◌, or_refused}
 use Rattle.isa_theory.specs.Contexts.{ContextSeen}
 use Rattle.isa_theory.specs.Applying.{applied, goal_of, known_facts, all_known, label_name, line_of}
 use Rattle.isa_theory.specs.MethodFacts.{method_facts}
-use Rattle.isa_theory.specs.Storing.{general_of, with_named, variable_names}
+use Rattle.isa_theory.specs.Options.{with_setting}
+use Rattle.isa_theory.specs.Storing.{general_of, with_named, with_closed, kept, variable_names}
 use Rattle.isaprove.specs.declared.session.Tried.{Tried}
 use Rattle.isaprove.specs.declared.session.Tried.TheVariants.{Opening, Matching}
 use Rattle.isaprove.specs.declared.session.OpenLemma.{OpenLemma}
@@ -33,7 +40,7 @@ use Rattle.isaprove.specs.declared.failure.Failure.{Failure}
 use Rattle.isaprove.specs.declared.failure.Rejection.{Rejection}
 use Rattle.isaprove.specs.Asking.{answer_at}
 use Rattle.isaprove.specs.Shown.{Shown, ShownState, ShownTheorem}
-use Rattle.isaprove.specs.Steps.{Next, refused, quiet, opening_of, opening, opened, declared, outside, match_facts, tried_with, unbuilt, tried_by, is_built, asked, first_asked, state_of, advanced, applied_first, applying, gone_back, going_back, theorem_of_goal, new_fact_name, stored, closed, finishing, dropped, within, not_yet, declaring, outcome}
+use Rattle.isaprove.specs.Steps.{Next, refused, quiet, opening_of, opening, opened, declared, unhonoured, outside, match_facts, tried_with, unbuilt, tried_by, is_built, asked, first_asked, state_of, advanced, applied_first, applying, gone_back, going_back, theorem_of_goal, new_fact_name, stored, closed, finishing, dropped, within, not_yet, declaring, outcome}
 use Rattle.isaprove.specs.Sound.{axioms_of, IsSoundShown, IsSoundState, IsSoundTheorem}
 use Rattle.isaprove.proofs.Standing.{derives_more, alone_stands, alone_base, IsNext, IsKept, AreKept, results_next}
 use Rattle.isaprove.proofs.AskLemmas.{matching_asked, opening_no_more, found_next}
@@ -178,14 +185,28 @@ named_grounded : (c : ContextSeen) (o : Option (List ℕ)) (th : Theorem) → Is
 named_grounded c None th g k = g
 named_grounded c (Some x) th g k = fact_grounded c x (th ∷ []) g (k, tt)
 
+-- a theorem that is cited rests on the same axioms
+cited_kept : (ax : List Tm) (n : ℕ) (th : Theorem) → IsKept ax th → IsKept ax (cited n th)
+cited_kept ax n th k =
+    record {
+      derived = cited_sound n th k.closed k.derived;
+      closed = refl;
+      rests = subst (λ (as : List NamedProp). Within (map (λ a. bare a.prop) as) ax) (sym (cite_axioms n th.prop (axioms_of_base th.base))) k.rests;
+    }
+
+closed_grounded : (c : ContextSeen) (th : Theorem) → IsGrounded c → IsGrounded (with_closed c th)
+closed_grounded c th g = record { props = g.props; facts = g.facts }
+
 stored_kept : (s : Session) (line : ℕ) (l : OpenLemma) (o : Result (Unit {0}) Kind) (n : Next) → SessionKept s → LemmaKept (axioms_of s.context.theory) l → l.state.subgoals ≡ [] → stored s line l (theorem_of_goal l.state) o ≡ Ok n → NextKept n
 stored_kept s line l (Err k) n g lk h e = absurd (cc (e))
 stored_kept s line l (Ok done) n g lk h e =
     let th : Theorem = general_of (theorem_of_goal l.state) in
     let k : IsKept (axioms_of s.context.theory) th = general_kept (axioms_of s.context.theory) l.state h lk.state in
-    ok_kept (record { session = record { context = with_named s.context l.name th; lemma = None }; shows = Some (ShownTheorem s.context l.name th.prop) }) n
+    let last : Theorem = kept s.context (theorem_of_goal l.state) in
+    let d : ContextSeen = with_named s.context l.name last in
+    ok_kept (record { session = record { context = with_closed d last; lemma = None }; shows = Some (ShownTheorem s.context l.name th.prop) }) n
     (record {
-      session = record { context = named_grounded s.context l.name th g.context k; lemma = tt };
+      session = record { context = closed_grounded d last (named_grounded s.context l.name last g.context (cited_kept (axioms_of s.context.theory) (length s.context.lemmas) th k)); lemma = tt };
       shows = record { derives = derives_more (propositions th.base) (axioms_of s.context.theory) [] (bare th.prop) k.rests k.derived.derivation };
     })
     (cc (e))
@@ -206,11 +227,15 @@ mapped_opening p (Some g) state ax e h =
     subst (λ (x : Goals). StandsBy ax x) same
     (record { stands = alone_stands p g e; rests = subst (λ b. Within (propositions b) ax) (sym (alone_base p g e)) (λ q m. absurd m) })
 
+opening_of_stands : (p : Tm) (b : Bool) (state : Goals) (ax : List Tm) → cond b (Err kind.NotBuilt) (or_refused kind.Types (option_map canon (started p))) ≡ Ok state → StandsBy ax state
+opening_of_stands p true state ax e = absurd (cc (e))
+opening_of_stands p false state ax e = mapped_opening p (started p) state ax refl (some_ok kind.Types (option_map canon (started p)) e)
+
 opening_stands : (c : ContextSeen) (label : Option Label) (text : Inner) (state : Goals) (ax : List Tm) → opening c label text ≡ Ok state → StandsBy ax state
 unfolding opening
 opening_stands c label text state ax e =
     let p = bind_ok (goal_of c label text) _ e in
-    mapped_opening p.0 (started p.0) state ax refl (some_ok kind.Types (option_map canon (started p.0)) p.2)
+    opening_of_stands p.0 (has_counted p.0) state ax p.2
 
 opened_kept : (s t : Session) (line : ℕ) (label : Option Label) (text : Inner) (o : Result Goals Kind) → SessionKept s → opening s.context label text ≡ o → opened s line label o ≡ Ok t → SessionKept t
 opened_kept s t line label text (Err k) g f e = absurd (cc (e))
@@ -219,6 +244,10 @@ opened_kept s t line label text (Ok state) g f e =
     let same : record s { lemma = Some (record { line = line; name = label_name label; before = state; tried = Opening; rank = 0; state = state }) } ≡ t = cc (e) in
     subst (λ (x : Session). SessionKept x) same
     (record { context = g.context; lemma = record { before = st; tried = tt; state = st } })
+
+option_kept : (s t : Session) (line : ℕ) (setting : Setting) (o : Result ContextSeen Kind) → unhonoured s.context setting ≡ o → declared s line o ≡ Ok t → SessionKept t
+option_kept s t line setting (Err cause) f e = absurd (cc (e))
+option_kept s t line setting (Ok c) f e = let o = bind_ok (with_setting s.context.options setting) _ f in absurd (cc (o.2))
 
 declared_kept : (s t : Session) (line : ℕ) (k : Command) (o : Result ContextSeen Kind) → SessionKept s → s.lemma ≡ None → applied s.context k ≡ o → declared s line o ≡ Ok t → SessionKept t
 declared_kept s t line k (Err cause) g n f e = absurd (cc (e))
@@ -237,7 +266,7 @@ outside_kept s t (command.Lemma line label text) g n e = opened_kept s t line la
 outside_kept s t (command.SchematicGoal line label text) g n e = opened_kept s t line label text (opening s.context label text) g refl e
 outside_kept s t (command.Lemmas line label xs) g n e = declared_kept s t line (command.Lemmas line label xs) (applied s.context (command.Lemmas line label xs)) g n refl e
 outside_kept s t (command.Declare line ds) g n e = declared_kept s t line (command.Declare line ds) (applied s.context (command.Declare line ds)) g n refl e
-outside_kept s t (command.DeclareOption line setting) g n e = declared_kept s t line (command.DeclareOption line setting) (applied s.context (command.DeclareOption line setting)) g n refl e
+outside_kept s t (command.DeclareOption line setting) g n e = option_kept s t line setting (unhonoured s.context setting) refl e
 outside_kept s t (command.Wrapper line safe before x m) g n e = declared_kept s t line (command.Wrapper line safe before x m) (applied s.context (command.Wrapper line safe before x m)) g n refl e
 outside_kept s t (command.Apply line m) g n e = declared_kept s t line (command.Apply line m) (applied s.context (command.Apply line m)) g n refl e
 outside_kept s t (command.By line m) g n e = declared_kept s t line (command.By line m) (applied s.context (command.By line m)) g n refl e

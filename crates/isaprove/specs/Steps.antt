@@ -3,6 +3,7 @@
 use Rattle.std.specs.Prelude.{◌≡◌, ◌≢◌, ℕ, ◌+◌, Bool, true, false, ◌&&◌, not, if◌then◌else◌, List, [], ◌∷◌, Option, Some, None, Result, Ok, Err, is_some, option_map}
 use Rattle.isa_terms.specs.Terms.{Tm}
 use Rattle.isa_kernel.specs.Theorem.{Theorem}
+use Rattle.isa_goal.specs.Counted.{has_counted, rules_have_counted}
 use Rattle.isa_goal.specs.Goals.{Goals, started, has_parameter}
 use Rattle.isa_goal.specs.Names.{canon}
 use Rattle.isa_goal.specs.Resolving.{all_first_order}
@@ -14,6 +15,7 @@ use Rattle.isa_outer.specs.declared.refusal.Sort.TheVariants as sort
 use Rattle.isa_outer.specs.declared.command.Command.{Command}
 use Rattle.isa_outer.specs.declared.command.Command.TheVariants as command
 use Rattle.isa_outer.specs.declared.command.Label.{Label}
+use Rattle.isa_outer.specs.declared.command.Setting.{Setting}
 use Rattle.isa_outer.specs.declared.command.Inner.{Inner}
 use Rattle.isa_outer.specs.Methods.{Method, At}
 use Rattle.isa_outer.specs.Methods as method
@@ -21,7 +23,8 @@ use Rattle.isa_theory.specs.Results.{◌>>=◌, or_refused}
 use Rattle.isa_theory.specs.Contexts.{ContextSeen, fact_of}
 use Rattle.isa_theory.specs.Applying.{applied, goal_of, known_facts, all_known, label_name, line_of}
 use Rattle.isa_theory.specs.MethodFacts.{method_facts}
-use Rattle.isa_theory.specs.Storing.{general_of, with_named}
+use Rattle.isa_theory.specs.Options.{with_setting}
+use Rattle.isa_theory.specs.Storing.{general_of, with_named, with_closed, kept}
 use Rattle.isaprove.specs.declared.session.Tried.{Tried}
 use Rattle.isaprove.specs.declared.session.Tried.TheVariants.{Opening, Matching}
 use Rattle.isaprove.specs.declared.session.OpenLemma.{OpenLemma}
@@ -49,9 +52,9 @@ quiet (Ok s) = Ok (record { session = s; shows = None })
 quiet (Err r) = Err r
 
 -- ---- commands outside of proofs
--- the state in which a proposition is the only subgoal of itself
+-- The state in which a proposition is the only subgoal of itself. One with a free variable that is named by a colon and digits, which no text gives, is not built.
 abbrev pub opening_of : Tm → Result Goals Kind
-opening_of p = or_refused kind.Types (option_map canon (started p))
+opening_of p = if has_counted p then Err kind.NotBuilt else or_refused kind.Types (option_map canon (started p))
 
 -- the state in which a lemma of a new name opens
 unfoldable pub opening : ContextSeen → Option Label → Inner → Result Goals Kind
@@ -66,10 +69,15 @@ abbrev pub declared : Session → ℕ → Result ContextSeen Kind → Result Ses
 declared s line (Ok c) = Ok (record s { context = c })
 declared s line (Err k) = refused line k
 
--- a lemma is opened; of any other command the context is what it leaves
+-- an option in its range is not built yet
+abbrev pub unhonoured : ContextSeen → Setting → Result ContextSeen Kind
+unhonoured c setting = with_setting c.options setting >>= (λ o. Err kind.NotBuilt)
+
+-- a lemma is opened; an option is not taken yet; of any other command the context is what it leaves
 unfoldable pub outside : Session → Command → Result Session Rejection
 outside s (command.Lemma line label text) = opened s line label (opening s.context label text)
 outside s (command.SchematicGoal line label text) = opened s line label (opening s.context label text)
+outside s (command.DeclareOption line setting) = declared s line (unhonoured s.context setting)
 outside s k = declared s (line_of k) (applied s.context k)
 
 -- ---- methods
@@ -90,10 +98,10 @@ tried_with c m None = unbuilt c m
 unfoldable pub tried_by : ContextSeen → Method → Result Tried Kind
 tried_by c m = tried_with c m (match_facts m)
 
--- whether it is built on a state: the conclusions of the rules are first-order, and the first subgoal has no parameter
+-- whether it is built on a state: the conclusions of the rules are first-order, no free variable of a rule is named by a colon and digits, and the first subgoal has no parameter
 abbrev pub is_built : Tried → Goals → Bool
 is_built Opening s = true
-is_built (Matching rules) s = all_first_order rules && not (has_parameter 1 s)
+is_built (Matching rules) s = all_first_order rules && (not (rules_have_counted rules) && not (has_parameter 1 s))
 
 -- the answer to the question for the result behind `rank` others
 unfoldable pub asked : Tried → Goals → ℕ → Result (Answer Goals) Kind
@@ -146,10 +154,10 @@ abbrev pub new_fact_name : ContextSeen → Option (List ℕ) → Result (Unit {0
 new_fact_name c None = Ok tt
 new_fact_name c (Some x) = if is_some (fact_of c x) then Err (kind.Duplicate sort.Fact x) else Ok tt
 
--- the theorem is stored under the lemma's name and shown, and no lemma is open
+-- the theorem is kept as that of a closed lemma, under the lemma's name, and shown, and no lemma is open
 abbrev pub stored : Session → ℕ → OpenLemma → Theorem → Result (Unit {0}) Kind → Result Next Rejection
 stored s line l th (Ok done) = Ok (record {
-  session = record { context = with_named s.context l.name (general_of th); lemma = None };
+  session = record { context = with_closed (with_named s.context l.name (kept s.context th)) (kept s.context th); lemma = None };
   shows = Some (ShownTheorem s.context l.name (general_of th).prop);
 })
 stored s line l th (Err k) = refused line k

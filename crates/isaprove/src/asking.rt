@@ -1,5 +1,6 @@
 //! Asking a method for its results.
 ghost use Rattle.std.specs.Prelude.{◌≡◌, IfOk, true, false};
+ghost use Rattle.isa_goal.specs.Counted.{rules_have_counted};
 ghost use Rattle.isa_goal.specs.Goals.{has_parameter};
 ghost use Rattle.isa_goal.specs.Resolving.{all_first_order};
 ghost use Rattle.isa_seq.specs.Asking.{at_end};
@@ -41,6 +42,7 @@ pub fn ask_matching(
     rank: u64,
 ) -> Result<Answer<State>, AllocError>
     requires first_order { all_first_order rules.now ≡ true }
+    requires uncounted { rules_have_counted rules.now ≡ false }
     requires no_parameter { has_parameter 1 state.now ≡ false }
     ensures { IfOk result (λ a. a ≡ answer_at (Matching rules.now) state.now rank) }
 {

@@ -9,14 +9,14 @@ ghost use Rattle.isa_outer.specs.declared.refusal.Kind.TheVariants as kind;
 ghost use Rattle.isa_theory.specs.Applying.{all_known, label_name};
 ghost use Rattle.isa_theory.specs.MethodFacts.{method_facts};
 ghost use Rattle.isaprove.specs.Steps as steps;
-ghost use Rattle.isaprove.specs.Steps.{opening_of, opening, opened, match_facts, tried_by, asked, first_asked, state_of, applying, going_back, new_fact_name, finishing, within, not_yet, quiet, dropped, declaring, outside, outcome};
+ghost use Rattle.isaprove.specs.Steps.{opening_of, opening, opened, declared, unhonoured, match_facts, tried_by, asked, first_asked, state_of, applying, going_back, new_fact_name, finishing, within, not_yet, quiet, dropped, declaring, outside, outcome};
 ghost use Rattle.isaprove.specs.Taken.{ComesOut, Printing, Becomes, BecomesNext, lemma_after, lemma_next};
 
 use crate::asking::{ask_matching, ask_opening};
 use crate::failure::{Failure, Rejection};
-use isa_goal::{State, are_first_order};
+use isa_goal::{State, are_first_order, has_counted, have_counted};
 use isa_kernel::{InferenceError, Thm, Thms};
-use isa_outer::{Command, Inner, Kind, Label, Method, MethodNode, Refused, Sort};
+use isa_outer::{Command, Inner, Kind, Label, Method, MethodNode, Refused, Setting, Sort};
 use isa_print::{state_text, theorem_text};
 use isa_seq::Answer;
 use isa_terms::{Name, Names, Term};
@@ -77,6 +77,9 @@ fn label_name(label: Option<&Label>) -> Result<Option<Name>, AllocError>
 fn opening_state(alloc: Global, prop: &Term) -> Result<State, Kind>
     ensures { Answers result (opening_of prop.now) }
 {
+    if has_counted(prop) {
+        return Err(Kind::NotBuilt);
+    }
     match State::start(alloc, prop) {
         Ok(state) => Ok(state),
         Err(InferenceError::Shape) => Err(Kind::Types),
@@ -133,6 +136,9 @@ fn ask(alloc: Global, tried: &Tried, state: &State, rank: u64) -> Result<Answer<
         Tried::Opening => Ok(ask_opening(alloc, state, rank)?),
         Tried::Matching(rules) => {
             if !are_first_order(rules) {
+                return Err(Kind::NotBuilt);
+            }
+            if have_counted(rules) {
                 return Err(Kind::NotBuilt);
             }
             if state.has_parameter(1) {
@@ -278,6 +284,16 @@ impl Session {
         }
     }
 
+    /// Refuses an option: what it would change is not built yet.
+    fn set_option(&self, line: u64, setting: Setting) -> Result<(), Rejection>
+        ensures { Becomes result self.now self.now (declared self.now line (unhonoured self.now.context setting)) }
+    {
+        match self.context.options().with(setting) {
+            Ok(_) => Err(refused(line, Kind::NotBuilt)),
+            Err(kind) => Err(refused(line, kind)),
+        }
+    }
+
     /// Takes a command that stands in no proof.
     #[tactic(auto, unfolding(crate::specs::Steps::outside))]
     fn declare(&mut self, alloc: Global, command: &Command) -> Result<(), Rejection>
@@ -290,6 +306,7 @@ impl Session {
             Command::SchematicGoal { line, label, prop } => {
                 self.open_lemma(alloc, *line, label.as_ref(), prop)
             }
+            Command::DeclareOption { line, setting } => self.set_option(*line, *setting),
             _ => {
                 self.context.apply(alloc, command)?;
                 Ok(())
