@@ -2,7 +2,7 @@
 use Rattle.std.proofs.Common.{◌≡◌, ℕ, zero, suc, ◌+◌, ◌-◌, ◌^◌, ◌<◌, ◌≤◌, ◌==◌, min, Bool, true, false, cond, List, [], ◌∷◌, map, length, Option, Some, None, refl, sym, ap, subst, ◌∙◌, arith, add-one, lit<}
 use Rattle.isa_kernel.specs.Theorem.{Theorem}
 use Rattle.isa_goal.specs.Goals.{Goals}
-use Rattle.isa_goal.specs.Resolving.{results}
+use Rattle.isa_goal.specs.Resolving.{Search, started_search, left, results}
 use Rattle.isa_goal.specs.declared.found.Found.{Found}
 use Rattle.isa_goal.specs.declared.found.Found.TheVariants as found
 use Rattle.isa_seq.specs.declared.event.Event.{Event}
@@ -100,3 +100,24 @@ opening_zero s k h = ap (λ (n : ℕ). answer_at Opening s n) h ∙ opening_firs
 
 pub opening_copied : (s t : Goals) (k : ℕ) → t ≡ s → k ≡ 0 → State t ≡ answer_at Opening s k
 opening_copied s t k e h = sym (subst (λ (u : Goals). answer_at Opening s k ≡ State u) (sym e) (opening_zero s k h))
+
+-- ---- a search that passes over results
+pub search_begins : (rules : List Theorem) (s : Goals) (k : ℕ) (q : Search) → q ≡ started_search rules s 1 → found_after k 0 (results 1 rules s) ≡ found_after k 0 (left q)
+search_begins rules s k q e = ap (λ (x : Search). found_after k 0 (left x)) (sym e)
+
+passed : (k o : ℕ) (s : Goals) (gs : List Found) → 0 < k → found_after k o (found.Res s ∷ gs) ≡ found_after (k - 1) o gs
+passed zero o s gs h = absurd (omega arith)
+passed (suc k) o s gs h = refl
+
+pub search_passes : (a : Answer Goals) (fs gs : List Found) (k o : ℕ) (s : Goals) → fs ≡ found.Res s ∷ gs → 0 < k → a ≡ found_after k o fs → a ≡ found_after (k - 1) o gs
+search_passes a fs gs k o s e h i = i ∙ ap (λ (f : List Found). found_after k o f) e ∙ passed k o s gs h
+
+pub search_outside : (a : Answer Goals) (fs gs : List Found) (k o : ℕ) → fs ≡ found.Outside ∷ gs → a ≡ found_after k o fs → a ≡ found_after k (min (o + 1) (2 ^ 64 - 1)) gs
+search_outside a fs gs k o e i = i ∙ ap (λ (f : List Found). found_after k o f) e
+
+pub search_finds : (rules : List Theorem) (s : Goals) (rank : ℕ) (fs gs : List Found) (k o : ℕ) (t : Goals) → fs ≡ found.Res t ∷ gs → k ≡ 0 → found_after rank 0 (results 1 rules s) ≡ found_after k o fs → State t ≡ answer_at (Matching rules) s rank
+search_finds rules s rank fs gs k o t e h i =
+    sym (matching_asked rules s rank ∙ i ∙ ap (λ (f : List Found). found_after k o f) e ∙ ap (λ (n : ℕ). found_after n o (found.Res t ∷ gs)) h)
+
+pub search_ends : (rules : List Theorem) (s : Goals) (rank : ℕ) (fs : List Found) (k o : ℕ) (r : Answer Goals) → fs ≡ [] → found_after rank 0 (results 1 rules s) ≡ found_after k o fs → r ≡ at_end o → r ≡ answer_at (Matching rules) s rank
+search_ends rules s rank fs k o r e i h = h ∙ sym (matching_asked rules s rank ∙ i ∙ ap (λ (f : List Found). found_after k o f) e)
