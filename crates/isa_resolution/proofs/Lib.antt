@@ -1,3 +1,12 @@
 pub mod Readying
 pub mod Answered
 pub mod Joining
+pub mod Under
+pub mod Refined
+pub mod Thinned
+pub mod Differing
+pub mod Answering
+pub mod ClosingAnswers
+pub mod Elimination
+pub mod Bases
+pub mod Steps

@@ -1,3 +1,9 @@
 pub mod Ready
 pub mod Unifiers
 pub mod Compose
+pub mod Problems
+pub mod Resolution
+pub mod Cursor
+pub mod Codes
+pub mod Views
+pub mod Steps

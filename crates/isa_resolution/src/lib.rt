@@ -1,10 +1,22 @@
-//! Resolution: rules composed with rules.
+//! Resolution: subgoals resolved with rules, and rules composed with rules.
 #![tactic(auto)]
 
+mod closing;
 mod compose;
+mod eliminating;
+mod introducing;
+mod modes;
 mod places;
+mod problems;
 mod ready;
+mod refining;
+mod resolve;
+mod resolving;
 mod stating;
+mod subjects;
+mod thinning;
 mod unifiers;
 
 pub use compose::compose_rules;
+pub use modes::{ModedRule, ModedRules};
+pub use resolve::Resolve;

@@ -1,6 +1,7 @@
 //! Theorems stated as given propositions.
 ghost use Rattle.std.specs.Prelude.{◌≡◌, ◌++◌, [], map, Ok, IfOk, is_ok};
 ghost use Rattle.isa_terms.specs.Instance.{instance_of};
+ghost use Rattle.isa_resolution.specs.Views.{IsGranted};
 
 use isa_kernel::{InferenceError, Thm, instantiate_thm, rename};
 use isa_terms::{Inst, Term, Terms, instantiate};
@@ -53,5 +54,17 @@ pub(crate) fn add_instances(
             done.push(instantiate(alloc, inst, first)?)?;
             add_instances(alloc, inst, rest, done)
         }
+    }
+}
+
+/// The theorem of an inference that doesn't refuse.
+pub(crate) fn granted(answer: Result<Thm, InferenceError>) -> Result<Thm, AllocError>
+    requires { IsGranted answer }
+    ensures { IfOk result (λ th. answer ≡ Ok th) }
+{
+    match answer {
+        Ok(th) => Ok(th),
+        Err(InferenceError::Memory) => Err(AllocError),
+        Err(InferenceError::Shape) => unreachable!(),
     }
 }
