@@ -1,11 +1,8 @@
 -- What lifting and types for type unknowns leave as it is.
-use Rattle.std.proofs.Common.{◌≡◌, List, [], Bool, true, false, not, ◌&&◌, ◌||◌, refl, sym, ap, ◌∙◌, subst, ◌⊎◌, inl, inr}
+use Rattle.std.proofs.Common.{◌≡◌, List, [], Bool, true, ◌&&◌, ◌||◌, refl, subst, ◌⊎◌, inl, inr}
 use Rattle.isa_terms.specs.Terms.{Tm, Const, Free, Unknown, Bound, Abs, App}
-use Rattle.isa_terms.specs.Equal.{name_eq}
-use Rattle.isa_terms.specs.Normal.{IsHead}
 use Rattle.isa_terms.specs.Instance.{inst_tm}
 use Rattle.isa_terms.specs.declared.inst.TypeEntry.{TypeEntry}
-use Rattle.isa_unify.specs.Spines.{is_flexible}
 use Rattle.isa_unify.specs.Clashes.{IsLifting}
 use Rattle.isa_unify.proofs.Tests.{both_true, and_true, either_true, or_left, or_right}
 use Rattle.isa_clash.specs.Differing.{is_named, is_firm, differ, differ_at}

@@ -1,11 +1,10 @@
 -- Terms that differ have no match.
-use Rattle.std.proofs.Common.{◌≡◌, List, [], ◌∷◌, Bool, true, false, not, ◌&&◌, ◌||◌, Option, Some, None, refl, sym, ap, ◌∙◌, subst, inl, inr, ◌⊎◌}
-use Rattle.isa_terms.specs.Types.{Ty}
+use Rattle.std.proofs.Common.{◌≡◌, List, [], ◌∷◌, Bool, true, false, not, Option, Some, None, refl, ap, ◌∙◌, inl, inr, ◌⊎◌}
 use Rattle.isa_terms.specs.Terms.{Tm, Const, Free, Unknown, Bound, Abs, App}
 use Rattle.isa_terms.specs.Equal.{name_eq}
 use Rattle.isa_terms.specs.Instance.{Instance}
-use Rattle.isa_unify.specs.Matching.{Binder, Flexible, flexible, applied, typed, solved, matched, ty_matched, closed_type, match_from, all_from, unless_fixed, app_parts, ◌>>=◌}
-use Rattle.isa_unify.proofs.Tests.{both_true, either_true}
+use Rattle.isa_unify.specs.Matching.{Binder, flexible, applied, typed, solved, matched, ty_matched, closed_type, match_from, all_from, unless_fixed, ◌>>=◌}
+use Rattle.isa_unify.proofs.Tests.{either_true}
 use Rattle.isa_clash.specs.Differing.{is_named, is_firm, differ, differ_at}
 use Rattle.isa_clash.proofs.Lifted.{split_test}
 use Rattle.isa_clash.specs.Laws.{Differ, here, under, argument, MatchDifferent}

@@ -1,5 +1,5 @@
 -- Unification of terms that differ finds a clash.
-use Rattle.std.proofs.Common.{◌≡◌, ◌⊎◌, inl, inr, ℕ, List, [], ◌∷◌, ◌++◌, map, Bool, true, false, cond, not, ◌&&◌, ◌||◌, Option, Some, None, is_some, refl, sym, ap, ◌∙◌, subst}
+use Rattle.std.proofs.Common.{◌≡◌, ◌⊎◌, inl, inr, ℕ, List, [], ◌∷◌, ◌++◌, map, Bool, true, false, cond, Option, Some, None, is_some, refl, sym, ap, ◌∙◌, subst}
 use Rattle.std.specs.Prelude.{option_map}
 use Rattle.isa_terms.specs.Types.{Ty}
 use Rattle.isa_terms.specs.Terms.{Tm, Const, Free, Unknown, Bound, Abs, App}
@@ -9,13 +9,12 @@ use Rattle.isa_unify.specs.declared.equation.Variable.{Variable}
 use Rattle.isa_unify.specs.declared.equation.Equation.{Equation}
 use Rattle.isa_unify.specs.declared.progress.Parts.{Parts}
 use Rattle.isa_unify.specs.declared.progress.Parts.TheVariants as parts
-use Rattle.isa_unify.specs.declared.progress.Answer.{Answer}
 use Rattle.isa_unify.specs.declared.progress.Answer.TheVariants.{No}
 use Rattle.isa_unify.specs.Descent as Ending
 use Rattle.isa_unify.specs.Descent.{Step, Done, Lighter, Solved, Ends}
 use Rattle.isa_unify.specs.TypeUnification.{unify_typs}
 use Rattle.isa_unify.specs.Spines.{head_of, args_of}
-use Rattle.isa_unify.specs.Unification.{paired, typed_parts, inner_parts, meet, parts_at, clash_step_at, clash_step, clashes, retyped, retyped_equation, retyped_state, start, unless_clash, answer_at, all_types, unified, unify}
+use Rattle.isa_unify.specs.Unification.{paired, typed_parts, meet, parts_at, clash_step_at, clash_step, clashes, retyped, retyped_equation, retyped_state, start, answer_at, all_types, unified, unify}
 use Rattle.isa_unify.proofs.Tests.{either_true}
 use Rattle.isa_unify.proofs.Adequacy.{clashes_reached}
 use Rattle.isa_clash.specs.Differing.{is_named, is_firm, differ, differ_at}

@@ -2,7 +2,7 @@
 -- Source: the rigid-rigid case of higher-order unification (Huet, "A unification algorithm for typed lambda-calculus", 1975), without its types and abstractions.
 -- `fixed` says whether the unknowns of the right term count as constants, as they do in matching.
 use Rattle.std.specs.Prelude.{Bool, true, false, not, ◌&&◌, ◌||◌}
-use Rattle.isa_terms.specs.Terms.{Tm, Const, Free, Unknown, Bound, Abs, App}
+use Rattle.isa_terms.specs.Terms.{Tm, Const, Free, Unknown, Abs, App}
 use Rattle.isa_terms.specs.Equal.{name_eq}
 
 -- whether a constant or a free variable stands at the head
