@@ -10,3 +10,4 @@ pub mod ClosingAnswers
 pub mod Elimination
 pub mod Bases
 pub mod Steps
+pub mod Searching
