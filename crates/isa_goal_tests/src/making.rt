@@ -2,9 +2,10 @@ ghost use Rattle.std.specs.Prelude.{◌<◌, ◌≤◌, IsTrue};
 
 use crate::desk::Desk;
 use crate::searching::next;
-use isa_goal::State;
-use isa_kernel::{InferenceError, Thm};
+use isa_goal::{State, has_counted, inst_has_counted};
+use isa_kernel::{InferenceError, Thm, instantiate_thm};
 use isa_sketch::{Bench, Fault, number, split};
+use isa_terms::{Inst, Term};
 use std::alloc::{AllocError, Global};
 
 /// The state that the call makes.
@@ -12,6 +13,7 @@ pub fn made(alloc: Global, desk: &mut Desk, verb: &str, rest: &str) -> Result<St
     match verb {
         "start" => start(alloc, &desk.bench, rest),
         "refine" => refine(alloc, desk, rest),
+        "refine_inst" => refine_inst(alloc, desk, rest),
         "focus" => focus(alloc, desk, rest),
         "unfocus" => unfocus(alloc, desk, rest),
         "copy" => copy(alloc, desk, rest),
@@ -22,7 +24,14 @@ pub fn made(alloc: Global, desk: &mut Desk, verb: &str, rest: &str) -> Result<St
 
 fn start(alloc: Global, bench: &Bench, rest: &str) -> Result<State, Fault> {
     let goal = bench.term(alloc, rest)?;
-    answered(State::start(alloc, &goal))
+    started(alloc, &goal)
+}
+
+fn started(alloc: Global, goal: &Term) -> Result<State, Fault> {
+    if has_counted(goal) {
+        return Err(Fault::Words);
+    }
+    answered(State::start(alloc, goal))
 }
 
 /// By the words `STATE PLACE COUNT` and a theorem.
@@ -47,7 +56,48 @@ fn refined(
     th: &Thm,
     count: usize,
 ) -> Result<State, Fault> {
+    if has_counted(th.prop()) {
+        return Err(Fault::Words);
+    }
     answered(state.refine(alloc, place, th, count))
+}
+
+/// By the words `STATE PLACE COUNT`, entries of an instance, and a theorem.
+fn refine_inst(alloc: Global, desk: &Desk, rest: &str) -> Result<State, Fault> {
+    let (name, rest) = split(rest)?;
+    let (place, rest) = split(rest)?;
+    let (count, words) = split(rest)?;
+    let mut stack = desk.bench.read(alloc, words)?;
+    let th = stack.take_thm()?;
+    refined_inst(
+        alloc,
+        desk.state(name)?,
+        number(place)?,
+        stack.inst(),
+        &th,
+        number(count)?,
+    )
+}
+
+/// An instance that the theorem does not have is a fault of the words.
+fn refined_inst(
+    alloc: Global,
+    state: &State,
+    place: usize,
+    inst: &Inst,
+    th: &Thm,
+    count: usize,
+) -> Result<State, Fault> {
+    if has_counted(th.prop()) {
+        return Err(Fault::Words);
+    }
+    if inst_has_counted(inst) {
+        return Err(Fault::Words);
+    }
+    match instantiate_thm(alloc, inst, th) {
+        Ok(_) => answered(state.refine_inst(alloc, place, inst, th, count)),
+        Err(_) => Err(Fault::Words),
+    }
 }
 
 /// By the words `STATE PLACE`.

@@ -1,5 +1,5 @@
 use crate::desk::Desk;
-use isa_goal::{Found, How, Mode, Resolve, State, are_first_order};
+use isa_goal::{Found, How, Mode, Resolve, State, are_first_order, have_counted};
 use isa_kernel::{Thm, Thms};
 use isa_sketch::{Bench, Fault, is_word, number, split};
 use std::alloc::Global;
@@ -23,6 +23,9 @@ fn started(alloc: Global, rules: &Thms, state: &State, place: usize) -> Result<R
         return Err(Fault::Words);
     }
     if state.has_parameter(place) {
+        return Err(Fault::Words);
+    }
+    if have_counted(rules) {
         return Err(Fault::Words);
     }
     Ok(Resolve::start(alloc, rules, state, place, Mode::Intro, How::Match)?)

@@ -11,31 +11,31 @@ use Rattle.isa_inner_types.specs.declared.token.TypeRefusal.{TypeRefusal}
 use Rattle.isa_inner_types.specs.declared.token.TextToken.{TextToken}
 use Rattle.isa_inner_types.specs.TypeReading as types
 use Rattle.isa_inner_types.specs.TypeGrammar.{OneTypeOutcome}
-use Rattle.isa_inner_text.specs.declared.signature.Signature.{Signature}
+use Rattle.isa_inner_text.specs.Signatures.{SignatureSeen}
 use Rattle.isa_inner_text.specs.Signature.{tokens_of}
 use Rattle.isa_inner_text.specs.Texts.{OneReading, Gives}
 use Rattle.isa_inner_text.specs.Reading.{Outcome, Refused, Step, Ends, Goes, Inside, InType, step, Runs, ends, goes, inside, typed, untyped, type_why, text, OneOutcome}
 use Rattle.isa_inner_types.proofs.TypeOutcomes.{one_outcome as one_type}
 
 -- what comes of a type and then of the step behind it
-abbrev pub Behind : (sig : Signature) → (Ty → ℕ → List TextToken → Step) → types.Outcome → Outcome → Type 0
+abbrev pub Behind : (sig : SignatureSeen) → (Ty → ℕ → List TextToken → Step) → types.Outcome → Outcome → Type 0
 Behind sig after (types.Read T h rest) u = Runs sig (after T h rest) u
 Behind sig after (types.Refused w at) u = u ≡ Refused (type_why w at)
 
-abbrev pub Inverted : (sig : Signature) → Step → Outcome → Type 0
+abbrev pub Inverted : (sig : SignatureSeen) → Step → Outcome → Type 0
 Inverted sig (Ends o) u = u ≡ o
 Inverted sig (Goes p ts) u = Runs sig (step sig p ts) u
 Inverted sig (Inside p ts after) u = (part : Outcome) × Runs sig (step sig p ts) part × Runs sig (after part) u
 Inverted sig (InType d ts after) u = (t : types.Outcome) × types.Runs (types.step (types.Whole d) ts) t × Behind sig after t u
 
-pub invert : (sig : Signature) (s : Step) (u : Outcome) → Runs sig s u → Inverted sig s u
+pub invert : (sig : SignatureSeen) (s : Step) (u : Outcome) → Runs sig s u → Inverted sig s u
 invert sig _ _ (ends o) = refl
 invert sig _ _ (goes p ts o r) = r
 invert sig _ _ (inside p ts after part o a r) = (part, a, r)
 invert sig _ _ (typed d ts after T h rest o a r) = (types.Read T h rest, a, r)
 invert sig _ _ (untyped d ts after w at a) = (types.Refused w at, a, refl)
 
-one : (sig : Signature) (s : Step) (o : Outcome) → Runs sig s o → (u : Outcome) → Runs sig s u → o ≡ u
+one : (sig : SignatureSeen) (s : Step) (o : Outcome) → Runs sig s o → (u : Outcome) → Runs sig s u → o ≡ u
 one sig _ _ (ends o) u r = sym (invert sig (Ends o) u r)
 one sig _ _ (goes p ts o r) u s = one sig _ _ r u (invert sig (Goes p ts) u s)
 one sig _ _ (inside p ts after part o a r) u s =
@@ -59,10 +59,7 @@ no_first : {A : Type 0} (x : A) (o : Option A) → o ≡ Some x → o ≡ None �
 no_first x o e f = cc
 
 nothing_first : (signs : Signs) → first_word signs [] ≡ None
-nothing_first signs = ap (λ (o : Option (ℕ × Sign)). longer [] o None) (ap (λ (n : ℕ). longest_sign signs n []) (min_zero signs.longest))
-  where
-    min_zero : (n : ℕ) → min n 0 ≡ 0
-    min_zero n = grind arith
+nothing_first signs = refl
 
 -- what a cutting begins with
 abbrev pub Invert : Signs → List ℕ → List Word → Type 0
@@ -104,7 +101,7 @@ cut_symbol signs b text words e f (inr (inl i)) = absurd cc
 cut_symbol signs b text words e f (inr (inr (inl i))) = absurd (no_first (i.0, i.1) (first_word signs (b ∷ text)) i.4 f)
 cut_symbol signs b text words e f (inr (inr (inr i))) = sym i.5
 
-cut_once : (signs : Signs) (text : List ℕ) (words : List Word) → Cuts signs text words → (others : List Word) → Cuts signs text others → words ≡ others
+pub cut_once : (signs : Signs) (text : List ℕ) (words : List Word) → Cuts signs text words → (others : List Word) → Cuts signs text others → words ≡ others
 cut_once signs _ _ Nothing others s = cut_nothing signs others (invert_cut signs [] others s)
 cut_once signs _ _ (Blank b text ws e r) others s = cut_once signs text ws r others (cut_blank signs b text others e (invert_cut signs (b ∷ text) others s))
 cut_once signs _ _ (First text n w ws b e r) others s =

@@ -23,7 +23,7 @@ use Rattle.isa_inner_types.specs.TypeAnswers as type_answers
 use Rattle.isa_inner_types.specs.declared.reading.Fail.{Fail}
 use Rattle.isa_inner_types.specs.declared.reading.Fail.TheVariants as fail
 use Rattle.isa_raw.specs.RawTerms.{Raw, RawName, RawUnknown}
-use Rattle.isa_inner_text.specs.declared.signature.Signature.{Signature}
+use Rattle.isa_inner_text.specs.Signatures.{SignatureSeen}
 use Rattle.isa_inner_text.specs.declared.part.Part.{Part}
 use Rattle.isa_inner_text.specs.declared.part.Variable.{Variable}
 use Rattle.isa_inner_text.specs.Parts.{closed, parenthesised, applied, annotated, joined, prefixed, bound, bracketed}
@@ -35,56 +35,56 @@ pub exit : {T : Type 0} (r : Result T Refusal) (e : Refusal) (P : T → Type 0) 
 exit (Ok x) e P Q h q = absurd h
 exit (Err f) e P Q h q = subst Q (sym h) q
 
-pub refusal_of : (sig : Signature) (cause wanted : Refusal) (s : Step) → IsThe wanted cause → s ≡ Ends (Refused wanted) → FailsBy sig cause s
+pub refusal_of : (sig : SignatureSeen) (cause wanted : Refusal) (s : Step) → IsThe wanted cause → s ≡ Ends (Refused wanted) → FailsBy sig cause s
 refusal_of sig cause wanted s h e n =
     subst (λ (t : Step). Runs sig t (Refused cause)) (sym e) (subst (λ (k : Refusal). Runs sig (Ends (Refused k)) (Refused cause)) (sym (h n)) (ends (Refused cause)))
 
 -- what fails later fails the whole
-pub fails_later : (sig : Signature) (cause : Refusal) (s later : Step) → Leads sig s later → FailsBy sig cause later → FailsBy sig cause s
+pub fails_later : (sig : SignatureSeen) (cause : Refusal) (s later : Step) → Leads sig s later → FailsBy sig cause later → FailsBy sig cause s
 fails_later sig cause s later h q n = h (Refused cause) (q n)
 
-pub fails_equal : (sig : Signature) (cause : Refusal) (s t : Step) → s ≡ t → FailsBy sig cause t → FailsBy sig cause s
+pub fails_equal : (sig : SignatureSeen) (cause : Refusal) (s t : Step) → s ≡ t → FailsBy sig cause t → FailsBy sig cause s
 fails_equal sig cause s t e q = subst (λ (x : Step). FailsBy sig cause x) (sym e) q
 
-pub fails_at : (sig : Signature) (cause : Refusal) (s : Step) → s ≡ Ends (Refused cause) → FailsBy sig cause s
+pub fails_at : (sig : SignatureSeen) (cause : Refusal) (s : Step) → s ≡ Ends (Refused cause) → FailsBy sig cause s
 fails_at sig cause s e n = subst (λ (t : Step). Runs sig t (Refused cause)) (sym e) (ends (Refused cause))
 
-pub refuses : {A : Type 0} (sig : Signature) (cause : Refusal) (X : (A → Step) → Step) (go : A → Step) → (cause ≢ refusal.Memory → (g : A → Step) → X g ≡ Ends (Refused cause)) → FailsBy sig cause (X go)
+pub refuses : {A : Type 0} (sig : SignatureSeen) (cause : Refusal) (X : (A → Step) → Step) (go : A → Step) → (cause ≢ refusal.Memory → (g : A → Step) → X g ≡ Ends (Refused cause)) → FailsBy sig cause (X go)
 refuses sig cause X go q n = subst (λ (t : Step). Runs sig t (Refused cause)) (sym (q n go)) (ends (Refused cause))
 
-pub refuses_two : {A B : Type 0} (sig : Signature) (cause : Refusal) (X : (A → B → Step) → Step) (go : A → B → Step) → (cause ≢ refusal.Memory → (g : A → B → Step) → X g ≡ Ends (Refused cause)) → FailsBy sig cause (X go)
+pub refuses_two : {A B : Type 0} (sig : SignatureSeen) (cause : Refusal) (X : (A → B → Step) → Step) (go : A → B → Step) → (cause ≢ refusal.Memory → (g : A → B → Step) → X g ≡ Ends (Refused cause)) → FailsBy sig cause (X go)
 refuses_two sig cause X go q n = subst (λ (t : Step). Runs sig t (Refused cause)) (sym (q n go)) (ends (Refused cause))
 
 -- a refused part is the refusal of the whole
-pub fails_inside : (sig : Signature) (cause : Refusal) (s : Step) (p : Place) (ts : List TextToken) (go : Part → List TextToken → Step) → s ≡ Inside p ts (and_then go) → FailsBy sig cause (step sig p ts) → FailsBy sig cause s
+pub fails_inside : (sig : SignatureSeen) (cause : Refusal) (s : Step) (p : Place) (ts : List TextToken) (go : Part → List TextToken → Step) → s ≡ Inside p ts (and_then go) → FailsBy sig cause (step sig p ts) → FailsBy sig cause s
 fails_inside sig cause s p ts go e q n =
     subst (λ (t : Step). Runs sig t (Refused cause)) (sym e) (inside p ts (and_then go) (Refused cause) (Refused cause) (q n) (ends (Refused cause)))
 
 -- behind a part that is read the step goes on
-pub leads_inside : (sig : Signature) (s : Step) (p : Place) (ts : List TextToken) (go : Part → List TextToken → Step) (part : Part) (later : List TextToken) → s ≡ Inside p ts (and_then go) → Runs sig (step sig p ts) (Read part later) → Leads sig s (go part later)
+pub leads_inside : (sig : SignatureSeen) (s : Step) (p : Place) (ts : List TextToken) (go : Part → List TextToken → Step) (part : Part) (later : List TextToken) → s ≡ Inside p ts (and_then go) → Runs sig (step sig p ts) (Read part later) → Leads sig s (go part later)
 leads_inside sig s p ts go part later e q o r = subst (λ (x : Step). Runs sig x o) (sym e) (inside p ts (and_then go) (Read part later) o q r)
 
-pub leads_equal : (sig : Signature) (s later : Step) → s ≡ later → Leads sig s later
+pub leads_equal : (sig : SignatureSeen) (s later : Step) → s ≡ later → Leads sig s later
 leads_equal sig s later e o r = subst (λ (x : Step). Runs sig x o) (sym e) r
 
-pub leads_both : (sig : Signature) (s t u : Step) → Leads sig s t → Leads sig t u → Leads sig s u
+pub leads_both : (sig : SignatureSeen) (s t u : Step) → Leads sig s t → Leads sig t u → Leads sig s u
 leads_both sig s t u a b o r = a o (b o r)
 
-pub leads_goes : (sig : Signature) (p : Place) (ts : List TextToken) (s : Step) → step sig p ts ≡ s → Leads sig (Goes p ts) s
+pub leads_goes : (sig : SignatureSeen) (p : Place) (ts : List TextToken) (s : Step) → step sig p ts ≡ s → Leads sig (Goes p ts) s
 leads_goes sig p ts s e o r = goes p ts o (subst (λ (x : Step). Runs sig x o) (sym e) r)
 
 -- what is complete goes on
-pub leads_complete : (sig : Signature) (w v : Wanted) (p q : Part) (go : Part → Step) → w ≡ v → ((g : Part → Step) → complete sig w p g ≡ g q) → Leads sig (complete sig v p go) (go q)
+pub leads_complete : (sig : SignatureSeen) (w v : Wanted) (p q : Part) (go : Part → Step) → w ≡ v → ((g : Part → Step) → complete sig w p g ≡ g q) → Leads sig (complete sig v p go) (go q)
 leads_complete sig w v p q go e h = leads_equal sig (complete sig v p go) (go q) (ap (λ (x : Wanted). complete sig x p go) (sym e) ∙ h go)
 
-pub fails_complete : (sig : Signature) (cause : Refusal) (w v : Wanted) (p : Part) (go : Part → Step) → w ≡ v → (cause ≢ refusal.Memory → (g : Part → Step) → complete sig w p g ≡ Ends (Refused cause)) → FailsBy sig cause (complete sig v p go)
+pub fails_complete : (sig : SignatureSeen) (cause : Refusal) (w v : Wanted) (p : Part) (go : Part → Step) → w ≡ v → (cause ≢ refusal.Memory → (g : Part → Step) → complete sig w p g ≡ Ends (Refused cause)) → FailsBy sig cause (complete sig v p go)
 fails_complete sig cause w v p go e h n = subst (λ (t : Step). Runs sig t (Refused cause)) (sym (ap (λ (x : Wanted). complete sig x p go) (sym e) ∙ h n go)) (ends (Refused cause))
 
 -- an operand by another name and priority that are the same
-pub operand_same : (sig : Signature) (d m n : ℕ) (w v : Wanted) (ts : List TextToken) (o : Outcome) → w ≡ v → m ≡ n → Runs sig (step sig (Operand d w m) ts) o → Runs sig (step sig (Operand d v n) ts) o
+pub operand_same : (sig : SignatureSeen) (d m n : ℕ) (w v : Wanted) (ts : List TextToken) (o : Outcome) → w ≡ v → m ≡ n → Runs sig (step sig (Operand d w m) ts) o → Runs sig (step sig (Operand d v n) ts) o
 operand_same sig d m n w v ts o e f r = subst (λ (k : ℕ). Runs sig (step sig (Operand d v k) ts) o) f (subst (λ (x : Wanted). Runs sig (step sig (Operand d x m) ts) o) e r)
 
-pub operand_fails_same : (sig : Signature) (cause : Refusal) (d m n : ℕ) (w v : Wanted) (ts : List TextToken) → w ≡ v → m ≡ n → FailsBy sig cause (step sig (Operand d w m) ts) → FailsBy sig cause (step sig (Operand d v n) ts)
+pub operand_fails_same : (sig : SignatureSeen) (cause : Refusal) (d m n : ℕ) (w v : Wanted) (ts : List TextToken) → w ≡ v → m ≡ n → FailsBy sig cause (step sig (Operand d w m) ts) → FailsBy sig cause (step sig (Operand d v n) ts)
 operand_fails_same sig cause d m n w v ts e f r k = operand_same sig d m n w v ts (Refused cause) e f (r k)
 
 -- tests of numbers
@@ -113,16 +113,16 @@ closing d m p rest = Goes (Behind d m (parenthesised p)) rest
 abbrev pub behind_open : ℕ → ℕ → Part → List TextToken → Step
 behind_open d m p later = expect mark.Close later (closing d m p)
 
-abbrev pub behind_prefix : Signature → ℕ → ℕ → PrefixSign → Part → List TextToken → Step
+abbrev pub behind_prefix : SignatureSeen → ℕ → ℕ → PrefixSign → Part → List TextToken → Step
 behind_prefix sig d m s p later = Goes (Behind d m (prefixed sig s p)) later
 
 abbrev pub behind_whole : ℕ → ℕ → Part → List TextToken → Step
 behind_whole d m p later = Goes (Behind d m p) later
 
-pub front_nothing : (sig : Signature) (d m : ℕ) (tokens : List TextToken) → tokens ≡ [] → front sig d m tokens ≡ refuse expected.Term tokens
+pub front_nothing : (sig : SignatureSeen) (d m : ℕ) (tokens : List TextToken) → tokens ≡ [] → front sig d m tokens ≡ refuse expected.Term tokens
 front_nothing sig d m tokens e = ap (front sig d m) e ∙ ap (refuse expected.Term) (sym e)
 
-pub front_default : (sig : Signature) (d m : ℕ) (tokens after : List TextToken) (first : TextToken) → tokens ≡ first ∷ after → ((x : List ℕ) (n : Option ℕ) → first ≡ token.Name x n → ⊥) → (first ≡ token.Open → ⊥) → ((x : TermToken) → first ≡ token.Other x → ⊥) → front sig d m tokens ≡ refuse expected.Term tokens
+pub front_default : (sig : SignatureSeen) (d m : ℕ) (tokens after : List TextToken) (first : TextToken) → tokens ≡ first ∷ after → ((x : List ℕ) (n : Option ℕ) → first ≡ token.Name x n → ⊥) → (first ≡ token.Open → ⊥) → ((x : TermToken) → first ≡ token.Other x → ⊥) → front sig d m tokens ≡ refuse expected.Term tokens
 front_default sig d m tokens after first e a b c = ap (front sig d m) e ∙ other first a b c ∙ ap (refuse expected.Term) (sym e)
   where
     other : (first : TextToken) → ((x : List ℕ) (n : Option ℕ) → first ≡ token.Name x n → ⊥) → (first ≡ token.Open → ⊥) → ((x : TermToken) → first ≡ token.Other x → ⊥) → front sig d m (first ∷ after) ≡ refuse expected.Term (first ∷ after)
@@ -138,7 +138,7 @@ front_default sig d m tokens after first e a b c = ap (front sig d m) e ∙ othe
     other (token.Refused n) a b c = refl
     other (token.Other x) a b c = absurd (c x refl)
 
-pub front_other : (sig : Signature) (d m : ℕ) (tokens after : List TextToken) (first : TextToken) (t : TermToken) → tokens ≡ first ∷ after → first ≡ token.Other t → ((x : List ℕ) → t ≡ term.Unknown x → ⊥) → (t ≡ term.OpenPremises → ⊥) → ((s : PrefixSign) → t ≡ term.Prefix s → ⊥) → ((s : BinderSign) → t ≡ term.Binder s → ⊥) → front sig d m tokens ≡ refuse expected.Term tokens
+pub front_other : (sig : SignatureSeen) (d m : ℕ) (tokens after : List TextToken) (first : TextToken) (t : TermToken) → tokens ≡ first ∷ after → first ≡ token.Other t → ((x : List ℕ) → t ≡ term.Unknown x → ⊥) → (t ≡ term.OpenPremises → ⊥) → ((s : PrefixSign) → t ≡ term.Prefix s → ⊥) → ((s : BinderSign) → t ≡ term.Binder s → ⊥) → front sig d m tokens ≡ refuse expected.Term tokens
 front_other sig d m tokens after first t e f a b c g =
     let whole : tokens ≡ token.Other t ∷ after = e ∙ ap (λ (x : TextToken). x ∷ after) f in
     ap (front sig d m) whole ∙ other t a b c g ∙ ap (refuse expected.Term) (sym whole)
@@ -157,16 +157,16 @@ front_other sig d m tokens after first t e f a b c g =
     other (term.Schematic x) a b c g = refl
 
 -- what goes on behind a left operand
-abbrev pub right_operand : Signature → ℕ → ℕ → InfixSign → Part → Part → List TextToken → Step
+abbrev pub right_operand : SignatureSeen → ℕ → ℕ → InfixSign → Part → Part → List TextToken → Step
 right_operand sig d m s l p later = complete sig (infix_operands s) p (λ r. Goes (Behind d m (joined sig s l r)) later)
 
-abbrev pub infix_inside : Signature → ℕ → ℕ → InfixSign → List TextToken → Part → Step
+abbrev pub infix_inside : SignatureSeen → ℕ → ℕ → InfixSign → List TextToken → Part → Step
 infix_inside sig d m s after l = Inside (Operand (d + 1) (infix_operands s) (infix_right s)) after (and_then (right_operand sig d m s l))
 
-abbrev pub infix_step : Signature → ℕ → ℕ → InfixSign → List TextToken → Part → Step
+abbrev pub infix_step : SignatureSeen → ℕ → ℕ → InfixSign → List TextToken → Part → Step
 infix_step sig d m s after l = unless_deep (d + l.height) (infix_inside sig d m s after l)
 
-pub further_infix : (sig : Signature) (d m : ℕ) (left : Part) (tokens after : List TextToken) (s : InfixSign) → tokens ≡ token.Other (term.Infix s) ∷ after → further sig d m left tokens ≡ complete sig (infix_operands s) left (infix_step sig d m s after)
+pub further_infix : (sig : SignatureSeen) (d m : ℕ) (left : Part) (tokens after : List TextToken) (s : InfixSign) → tokens ≡ token.Other (term.Infix s) ∷ after → further sig d m left tokens ≡ complete sig (infix_operands s) left (infix_step sig d m s after)
 further_infix sig d m left tokens after s e = ap (further sig d m left) e
 
 pub step_deep : (n : ℕ) (s : Step) → limit ≤ n → unless_deep n s ≡ Ends (Refused refusal.Deep)
@@ -176,13 +176,13 @@ pub step_shallow : (n : ℕ) (s : Step) → n < limit → unless_deep n s ≡ s
 step_shallow n s l = ap (λ (b : Bool). cond b s (Ends (Refused refusal.Deep))) (not_too_deep n l)
 
 -- up to the right operand
-pub to_right : (sig : Signature) (d m : ℕ) (left l : Part) (tokens after : List TextToken) (s : InfixSign) (w : Wanted) → tokens ≡ token.Other (term.Infix s) ∷ after → w ≡ infix_operands s → ((g : Part → Step) → complete sig w left g ≡ g l) → Leads sig (further sig d m left tokens) (infix_step sig d m s after l)
+pub to_right : (sig : SignatureSeen) (d m : ℕ) (left l : Part) (tokens after : List TextToken) (s : InfixSign) (w : Wanted) → tokens ≡ token.Other (term.Infix s) ∷ after → w ≡ infix_operands s → ((g : Part → Step) → complete sig w left g ≡ g l) → Leads sig (further sig d m left tokens) (infix_step sig d m s after l)
 to_right sig d m left l tokens after s w e f h =
     leads_both sig (further sig d m left tokens) (complete sig (infix_operands s) left (infix_step sig d m s after)) (infix_step sig d m s after l)
     (leads_equal sig (further sig d m left tokens) (complete sig (infix_operands s) left (infix_step sig d m s after)) (further_infix sig d m left tokens after s e))
     (leads_complete sig w (infix_operands s) left l (infix_step sig d m s after) f h)
 
-pub to_right_operand : (sig : Signature) (d m : ℕ) (left l : Part) (tokens after : List TextToken) (s : InfixSign) (w : Wanted) → tokens ≡ token.Other (term.Infix s) ∷ after → w ≡ infix_operands s → ((g : Part → Step) → complete sig w left g ≡ g l) → d + l.height < limit → Leads sig (further sig d m left tokens) (infix_inside sig d m s after l)
+pub to_right_operand : (sig : SignatureSeen) (d m : ℕ) (left l : Part) (tokens after : List TextToken) (s : InfixSign) (w : Wanted) → tokens ≡ token.Other (term.Infix s) ∷ after → w ≡ infix_operands s → ((g : Part → Step) → complete sig w left g ≡ g l) → d + l.height < limit → Leads sig (further sig d m left tokens) (infix_inside sig d m s after l)
 to_right_operand sig d m left l tokens after s w e f h n =
     leads_both sig (further sig d m left tokens) (infix_step sig d m s after l) (infix_inside sig d m s after l)
     (to_right sig d m left l tokens after s w e f h)
@@ -218,17 +218,17 @@ starts_colons (token.Other term.ClosePremises ∷ ts) e = absurd cc
 starts_colons (token.Other (term.Symbol x) ∷ ts) e = absurd cc
 starts_colons (token.Other (term.Schematic x) ∷ ts) e = absurd cc
 
-pub further_colons : (sig : Signature) (d m : ℕ) (left : Part) (tokens after : List TextToken) → starts mark.Colons tokens ≡ true → after ≡ behind_first tokens → further sig d m left tokens ≡ unless_deep (d + left.height) (InType (d + 1) after (annotation d m left))
+pub further_colons : (sig : SignatureSeen) (d m : ℕ) (left : Part) (tokens after : List TextToken) → starts mark.Colons tokens ≡ true → after ≡ behind_first tokens → further sig d m left tokens ≡ unless_deep (d + left.height) (InType (d + 1) after (annotation d m left))
 further_colons sig d m left tokens after e a =
     ap (further sig d m left) (starts_colons tokens e) ∙ ap (λ (ts : List TextToken). unless_deep (d + left.height) (InType (d + 1) ts (annotation d m left))) (sym a)
 
-pub further_type : (sig : Signature) (d m : ℕ) (left : Part) (tokens after : List TextToken) → starts mark.Colons tokens ≡ true → after ≡ behind_first tokens → d + left.height < limit → further sig d m left tokens ≡ InType (d + 1) after (annotation d m left)
+pub further_type : (sig : SignatureSeen) (d m : ℕ) (left : Part) (tokens after : List TextToken) → starts mark.Colons tokens ≡ true → after ≡ behind_first tokens → d + left.height < limit → further sig d m left tokens ≡ InType (d + 1) after (annotation d m left)
 further_type sig d m left tokens after e a l = further_colons sig d m left tokens after e a ∙ step_shallow (d + left.height) (InType (d + 1) after (annotation d m left)) l
 
-pub further_type_deep : (sig : Signature) (d m : ℕ) (left : Part) (tokens : List TextToken) → starts mark.Colons tokens ≡ true → limit ≤ d + left.height → further sig d m left tokens ≡ Ends (Refused refusal.Deep)
+pub further_type_deep : (sig : SignatureSeen) (d m : ℕ) (left : Part) (tokens : List TextToken) → starts mark.Colons tokens ≡ true → limit ≤ d + left.height → further sig d m left tokens ≡ Ends (Refused refusal.Deep)
 further_type_deep sig d m left tokens e l = further_colons sig d m left tokens (behind_first tokens) e refl ∙ step_deep (d + left.height) (InType (d + 1) (behind_first tokens) (annotation d m left)) l
 
-pub further_argument : (sig : Signature) (d m : ℕ) (left : Part) (tokens : List TextToken) → IsNoInfix tokens → starts mark.Colons tokens ≡ false → further sig d m left tokens ≡ Inside (Operand d wanted.Term 1000) tokens (and_then (argument d m left))
+pub further_argument : (sig : SignatureSeen) (d m : ℕ) (left : Part) (tokens : List TextToken) → IsNoInfix tokens → starts mark.Colons tokens ≡ false → further sig d m left tokens ≡ Inside (Operand d wanted.Term 1000) tokens (and_then (argument d m left))
 further_argument sig d m left [] n e = refl
 further_argument sig d m left (token.Name x k ∷ ts) n e = refl
 further_argument sig d m left (token.Variable x ∷ ts) n e = refl
@@ -281,16 +281,16 @@ goes_argument m left (token.Other (term.Symbol x) ∷ ts) n e = refl
 goes_argument m left (token.Other (term.Schematic x) ∷ ts) n e = refl
 
 -- operands
-abbrev operand_cases : Signature → ℕ → Wanted → List TextToken → Bool → Bool → ℕ → Step
+abbrev operand_cases : SignatureSeen → ℕ → Wanted → List TextToken → Bool → Bool → ℕ → Step
 operand_cases sig d w ts deep first m = cond deep (Ends (Refused refusal.Deep)) (cond first (front sig d m ts) (refuse (operand_expected w) ts))
 
-pub operand_deep : (sig : Signature) (d m : ℕ) (w : Wanted) (tokens : List TextToken) → limit < d → step sig (Operand d w m) tokens ≡ Ends (Refused refusal.Deep)
+pub operand_deep : (sig : SignatureSeen) (d m : ℕ) (w : Wanted) (tokens : List TextToken) → limit < d → step sig (Operand d w m) tokens ≡ Ends (Refused refusal.Deep)
 operand_deep sig d m w tokens l = ap (λ (b : Bool). operand_cases sig d w tokens b (begins m tokens) m) (deeper d l)
 
-pub operand_refused : (sig : Signature) (d m : ℕ) (w : Wanted) (tokens : List TextToken) → d ≤ limit → begins m tokens ≡ false → step sig (Operand d w m) tokens ≡ refuse (operand_expected w) tokens
+pub operand_refused : (sig : SignatureSeen) (d m : ℕ) (w : Wanted) (tokens : List TextToken) → d ≤ limit → begins m tokens ≡ false → step sig (Operand d w m) tokens ≡ refuse (operand_expected w) tokens
 operand_refused sig d m w tokens l e = ap (λ (b : Bool). operand_cases sig d w tokens b (begins m tokens) m) (deep_enough d l) ∙ ap (λ (b : Bool). operand_cases sig d w tokens false b m) e
 
-pub operand_front : (sig : Signature) (d m : ℕ) (w : Wanted) (tokens : List TextToken) → d ≤ limit → begins m tokens ≡ true → step sig (Operand d w m) tokens ≡ front sig d m tokens
+pub operand_front : (sig : SignatureSeen) (d m : ℕ) (w : Wanted) (tokens : List TextToken) → d ≤ limit → begins m tokens ≡ true → step sig (Operand d w m) tokens ≡ front sig d m tokens
 operand_front sig d m w tokens l e = ap (λ (b : Bool). operand_cases sig d w tokens b (begins m tokens) m) (deep_enough d l) ∙ ap (λ (b : Bool). operand_cases sig d w tokens false b m) e
 
 and_false : (a b : Bool) → b ≡ false → (a && b) ≡ false
@@ -325,45 +325,45 @@ not_met : (m : ℕ) (left : Part) (ts : List TextToken) (b : Bool) → is_met ts
 not_met m left ts true e g = let f : goes_on m left ts ≡ false = met_ends m left ts e in absurd cc
 not_met m left ts false e g = refl
 
-pub behind_cases : (sig : Signature) (d m : ℕ) (left : Part) (rest : List TextToken) (b c : Bool) → is_met rest ≡ b → goes_on m left rest ≡ c → step sig (Behind d m left) rest ≡ cond b (refuse expected.EndOfText rest) (cond c (further sig d m left rest) (Ends (Read left rest)))
+pub behind_cases : (sig : SignatureSeen) (d m : ℕ) (left : Part) (rest : List TextToken) (b c : Bool) → is_met rest ≡ b → goes_on m left rest ≡ c → step sig (Behind d m left) rest ≡ cond b (refuse expected.EndOfText rest) (cond c (further sig d m left rest) (Ends (Read left rest)))
 behind_cases sig d m left rest b c e f =
     ap (λ (x : Bool). cond x (refuse expected.EndOfText rest) (cond (goes_on m left rest) (further sig d m left rest) (Ends (Read left rest)))) e
     ∙ ap (λ (x : Bool). cond b (refuse expected.EndOfText rest) (cond x (further sig d m left rest) (Ends (Read left rest)))) f
 
-pub behind_further : (sig : Signature) (d m : ℕ) (left : Part) (rest : List TextToken) → goes_on m left rest ≡ true → Leads sig (Goes (Behind d m left) rest) (further sig d m left rest)
+pub behind_further : (sig : SignatureSeen) (d m : ℕ) (left : Part) (rest : List TextToken) → goes_on m left rest ≡ true → Leads sig (Goes (Behind d m left) rest) (further sig d m left rest)
 behind_further sig d m left rest e = leads_goes sig (Behind d m left) rest (further sig d m left rest) (behind_cases sig d m left rest false true (not_met m left rest (is_met rest) refl e) e)
 
-pub behind_ends : (sig : Signature) (d m : ℕ) (left : Part) (rest : List TextToken) → is_met rest ≡ false → goes_on m left rest ≡ false → Leads sig (Goes (Behind d m left) rest) (Ends (Read left rest))
+pub behind_ends : (sig : SignatureSeen) (d m : ℕ) (left : Part) (rest : List TextToken) → is_met rest ≡ false → goes_on m left rest ≡ false → Leads sig (Goes (Behind d m left) rest) (Ends (Read left rest))
 behind_ends sig d m left rest e f = leads_goes sig (Behind d m left) rest (Ends (Read left rest)) (behind_cases sig d m left rest false false e f)
 
-pub behind_met : (sig : Signature) (d m : ℕ) (left : Part) (rest : List TextToken) → is_met rest ≡ true → goes_on m left rest ≡ false → Leads sig (Goes (Behind d m left) rest) (refuse expected.EndOfText rest)
+pub behind_met : (sig : SignatureSeen) (d m : ℕ) (left : Part) (rest : List TextToken) → is_met rest ≡ true → goes_on m left rest ≡ false → Leads sig (Goes (Behind d m left) rest) (refuse expected.EndOfText rest)
 behind_met sig d m left rest e f = leads_goes sig (Behind d m left) rest (refuse expected.EndOfText rest) (behind_cases sig d m left rest true false e f)
 
-pub operand_reads : (sig : Signature) (d m : ℕ) (w : Wanted) (tokens : List TextToken) (left : Part) (rest : List TextToken) → d ≤ limit → begins m tokens ≡ true → Leads sig (front sig d m tokens) (Goes (Behind d m left) rest) → is_met rest ≡ false → goes_on m left rest ≡ false → Runs sig (step sig (Operand d w m) tokens) (Read left rest)
+pub operand_reads : (sig : SignatureSeen) (d m : ℕ) (w : Wanted) (tokens : List TextToken) (left : Part) (rest : List TextToken) → d ≤ limit → begins m tokens ≡ true → Leads sig (front sig d m tokens) (Goes (Behind d m left) rest) → is_met rest ≡ false → goes_on m left rest ≡ false → Runs sig (step sig (Operand d w m) tokens) (Read left rest)
 operand_reads sig d m w tokens left rest l e a n g =
     leads_equal sig (step sig (Operand d w m) tokens) (front sig d m tokens) (operand_front sig d m w tokens l e) (Read left rest)
     (a (Read left rest) (behind_ends sig d m left rest n g (Read left rest) (ends (Read left rest))))
 
-pub operand_fails : (sig : Signature) (cause : Refusal) (d m : ℕ) (w : Wanted) (tokens : List TextToken) (s : Step) → d ≤ limit → begins m tokens ≡ true → Leads sig (front sig d m tokens) s → FailsBy sig cause s → FailsBy sig cause (step sig (Operand d w m) tokens)
+pub operand_fails : (sig : SignatureSeen) (cause : Refusal) (d m : ℕ) (w : Wanted) (tokens : List TextToken) (s : Step) → d ≤ limit → begins m tokens ≡ true → Leads sig (front sig d m tokens) s → FailsBy sig cause s → FailsBy sig cause (step sig (Operand d w m) tokens)
 operand_fails sig cause d m w tokens s l e a q =
     fails_later sig cause (step sig (Operand d w m) tokens) s (leads_both sig (step sig (Operand d w m) tokens) (front sig d m tokens) s (leads_equal sig (step sig (Operand d w m) tokens) (front sig d m tokens) (operand_front sig d m w tokens l e)) a) q
 
 -- what a later call answers is the answer
-pub same_result : {T : Type 0} (sig : Signature) (r : Result T Refusal) (O : T → Outcome) (s t : Step) → Leads sig s t → MatchResult r (λ x. Runs sig t (O x)) (λ f. FailsBy sig f t) → MatchResult r (λ x. Runs sig s (O x)) (λ f. FailsBy sig f s)
+pub same_result : {T : Type 0} (sig : SignatureSeen) (r : Result T Refusal) (O : T → Outcome) (s t : Step) → Leads sig s t → MatchResult r (λ x. Runs sig t (O x)) (λ f. FailsBy sig f t) → MatchResult r (λ x. Runs sig s (O x)) (λ f. FailsBy sig f s)
 same_result sig (Ok x) O s t a h = a (O x) h
 same_result sig (Err f) O s t a h = λ n. a (Refused f) (h n)
 
 -- the same where a whole place is read first
-pub same_inside : {T : Type 0} (sig : Signature) (r : Result T Refusal) (part : T → Part) (rest : T → List TextToken) (s : Step) (p : Place) (ts : List TextToken) (go : Part → List TextToken → Step)
+pub same_inside : {T : Type 0} (sig : SignatureSeen) (r : Result T Refusal) (part : T → Part) (rest : T → List TextToken) (s : Step) (p : Place) (ts : List TextToken) (go : Part → List TextToken → Step)
     → s ≡ Inside p ts (and_then go) → MatchResult r (λ x. Runs sig (step sig p ts) (Read (part x) (rest x))) (λ f. FailsBy sig f (step sig p ts)) → MatchResult r (λ x. Leads sig s (go (part x) (rest x))) (λ f. FailsBy sig f s)
 same_inside sig (Ok x) part rest s p ts go e h = leads_inside sig s p ts go (part x) (rest x) e h
 same_inside sig (Err f) part rest s p ts go e h = fails_inside sig f s p ts go e h
 
 -- types
-pub type_reads : (sig : Signature) (d : ℕ) (ts : List TextToken) (go : Ty → ℕ → List TextToken → Step) (T : Ty) (h : ℕ) (rest : List TextToken) → types.Runs (types.step (types.Whole d) ts) (types.Read T h rest) → Leads sig (InType d ts go) (go T h rest)
+pub type_reads : (sig : SignatureSeen) (d : ℕ) (ts : List TextToken) (go : Ty → ℕ → List TextToken → Step) (T : Ty) (h : ℕ) (rest : List TextToken) → types.Runs (types.step (types.Whole d) ts) (types.Read T h rest) → Leads sig (InType d ts go) (go T h rest)
 type_reads sig d ts go T h rest q o r = typed d ts go T h rest o q r
 
-pub type_fails : (sig : Signature) (cause : Refusal) (d : ℕ) (ts : List TextToken) (go : Ty → ℕ → List TextToken → Step) (f : Fail) → type_answers.FailsBy f (types.step (types.Whole d) ts) → IsTypeCause f cause → FailsBy sig cause (InType d ts go)
+pub type_fails : (sig : SignatureSeen) (cause : Refusal) (d : ℕ) (ts : List TextToken) (go : Ty → ℕ → List TextToken → Step) (f : Fail) → type_answers.FailsBy f (types.step (types.Whole d) ts) → IsTypeCause f cause → FailsBy sig cause (InType d ts go)
 type_fails sig cause d ts go fail.Memory q h n = absurd (n h)
 type_fails sig cause d ts go (fail.Refused w at) q h n = subst (λ (k : Refusal). Runs sig (InType d ts go) (Refused k)) (h n) (untyped d ts go w at.now q)
 
@@ -404,13 +404,13 @@ pub plain_bare : (d : ℕ) (first : Bool) (go : Variable → ℕ → Bool → Li
 plain_bare d first go x ts e = ap (λ (b : Bool). cond b (InType (d + 1) (behind_first ts) (v_alone go x)) (go (variable_of x None) 0 false ts)) e
 
 -- the state of reading variables: one more, or the body
-abbrev pub variables_step : Signature → ℕ → BinderSign → Bool → List Variable → ℕ → List TextToken → Step
+abbrev pub variables_step : SignatureSeen → ℕ → BinderSign → Bool → List Variable → ℕ → List TextToken → Step
 variables_step sig d s more vs h rest = cond more (bindings sig d s vs h rest) (expect mark.Dot rest (body sig d s vs h))
 
-abbrev pub one_more : Signature → ℕ → BinderSign → List Variable → ℕ → Variable → ℕ → Bool → List TextToken → Step
+abbrev pub one_more : SignatureSeen → ℕ → BinderSign → List Variable → ℕ → Variable → ℕ → Bool → List TextToken → Step
 one_more sig d s vs h v k only rest = behind_variable sig d s (vs ++ (v ∷ [])) (max h k) only rest
 
-pub more_variables : (sig : Signature) (d : ℕ) (s : BinderSign) (vs : List Variable) (h : ℕ) (only more : Bool) (ts : List TextToken) → more ≡ (not only && is_variable ts) → Leads sig (behind_variable sig d s vs h only ts) (variables_step sig d s more vs h ts)
+pub more_variables : (sig : SignatureSeen) (d : ℕ) (s : BinderSign) (vs : List Variable) (h : ℕ) (only more : Bool) (ts : List TextToken) → more ≡ (not only && is_variable ts) → Leads sig (behind_variable sig d s vs h only ts) (variables_step sig d s more vs h ts)
 more_variables sig d s vs h only true ts e =
     leads_both sig (behind_variable sig d s vs h only ts) (Goes (Bindings d s vs h) ts) (bindings sig d s vs h ts)
     (leads_equal sig (behind_variable sig d s vs h only ts) (Goes (Bindings d s vs h) ts) (ap (λ (b : Bool). cond b (Goes (Bindings d s vs h) ts) (expect mark.Dot ts (body sig d s vs h))) (sym e)))
@@ -432,9 +432,9 @@ pub only_last : (only x : Bool) → not only ≡ false → not only ≡ (not onl
 only_last only x e = e ∙ ap (λ (b : Bool). b && x) (sym e)
 
 -- one variable more
-pub variables_more : (sig : Signature) (d : ℕ) (s : BinderSign) (tokens : List TextToken) (vs new : List Variable) (h k height : ℕ) (v : Variable) (first only was more : Bool) (rest after : List TextToken)
+pub variables_more : (sig : SignatureSeen) (d : ℕ) (s : BinderSign) (tokens : List TextToken) (vs new : List Variable) (h k height : ℕ) (v : Variable) (first only was more : Bool) (rest after : List TextToken)
     → Leads sig (bindings sig d s [] 0 tokens) (variables_step sig d s was vs h rest) → was ≡ true → first ≡ is_first vs
-    → ((x : Signature) (go : Variable → ℕ → Bool → List TextToken → Step) → Leads x (variable d first rest go) (go v k only after))
+    → ((x : SignatureSeen) (go : Variable → ℕ → Bool → List TextToken → Step) → Leads x (variable d first rest go) (go v k only after))
     → new ≡ vs ++ (v ∷ []) → height ≡ max h k → more ≡ (not only && is_variable after)
     → Leads sig (bindings sig d s [] 0 tokens) (variables_step sig d s more new height after)
 variables_more sig d s tokens vs new h k height v first only was more rest after a w f r p q m =
@@ -446,7 +446,7 @@ variables_more sig d s tokens vs new h k height v first only was more rest after
     let three : Leads sig start (variables_step sig d s more (vs ++ (v ∷ [])) (max h k) after) = leads_both sig start (go v k only after) (variables_step sig d s more (vs ++ (v ∷ [])) (max h k) after) two (more_variables sig d s (vs ++ (v ∷ [])) (max h k) only more after m) in
     subst (λ (l : List Variable). Leads sig start (variables_step sig d s more l height after)) (sym p) (subst (λ (n : ℕ). Leads sig start (variables_step sig d s more (vs ++ (v ∷ [])) n after)) (sym q) three)
 
-pub variables_done : (sig : Signature) (d : ℕ) (s : BinderSign) (tokens : List TextToken) (vs : List Variable) (h : ℕ) (was : Bool) (rest : List TextToken) → Leads sig (bindings sig d s [] 0 tokens) (variables_step sig d s was vs h rest) → was ≡ false → Leads sig (bindings sig d s [] 0 tokens) (expect mark.Dot rest (body sig d s vs h))
+pub variables_done : (sig : SignatureSeen) (d : ℕ) (s : BinderSign) (tokens : List TextToken) (vs : List Variable) (h : ℕ) (was : Bool) (rest : List TextToken) → Leads sig (bindings sig d s [] 0 tokens) (variables_step sig d s was vs h rest) → was ≡ false → Leads sig (bindings sig d s [] 0 tokens) (expect mark.Dot rest (body sig d s vs h))
 variables_done sig d s tokens vs h was rest a w =
     leads_both sig (bindings sig d s [] 0 tokens) (variables_step sig d s was vs h rest) (expect mark.Dot rest (body sig d s vs h)) a
     (leads_equal sig (variables_step sig d s was vs h rest) (expect mark.Dot rest (body sig d s vs h)) (ap (λ (b : Bool). variables_step sig d s b vs h rest) w))
@@ -462,38 +462,38 @@ pub both_within : (d h k n : ℕ) → d + h ≤ n → d + k ≤ n → d + max h 
 both_within d h k n a b = grind arith
 
 -- bodies
-abbrev pub body_read : Signature → BinderSign → List Variable → ℕ → List TextToken → Part → Step
+abbrev pub body_read : SignatureSeen → BinderSign → List Variable → ℕ → List TextToken → Part → Step
 body_read sig s vs h rest q = Ends (Read (bound sig s vs h q) rest)
 
-abbrev pub body_complete : Signature → BinderSign → List Variable → ℕ → Part → List TextToken → Step
+abbrev pub body_complete : SignatureSeen → BinderSign → List Variable → ℕ → Part → List TextToken → Step
 body_complete sig s vs h p rest = complete sig (binder_body s) p (body_read sig s vs h rest)
 
-pub body_inside : (sig : Signature) (d : ℕ) (s : BinderSign) (vs : List Variable) (h : ℕ) (ts : List TextToken) (w : Wanted) (own n : ℕ) → w ≡ binder_body s → own ≡ binder_own s → n ≡ operators s + length vs → body sig d s vs h ts ≡ Inside (Operand (d + n) w own) ts (and_then (body_complete sig s vs h))
+pub body_inside : (sig : SignatureSeen) (d : ℕ) (s : BinderSign) (vs : List Variable) (h : ℕ) (ts : List TextToken) (w : Wanted) (own n : ℕ) → w ≡ binder_body s → own ≡ binder_own s → n ≡ operators s + length vs → body sig d s vs h ts ≡ Inside (Operand (d + n) w own) ts (and_then (body_complete sig s vs h))
 body_inside sig d s vs h ts w own n e o f =
     ap (λ (k : ℕ). Inside (Operand (d + k) (binder_body s) (binder_own s)) ts (and_then (body_complete sig s vs h))) (sym f)
     ∙ ap (λ (v : Wanted). Inside (Operand (d + n) v (binder_own s)) ts (and_then (body_complete sig s vs h))) (sym e)
     ∙ ap (λ (k : ℕ). Inside (Operand (d + n) w k) ts (and_then (body_complete sig s vs h))) (sym o)
 
 -- premises
-abbrev pub conclusion_read : Signature → List Raw → ℕ → List TextToken → Part → Step
+abbrev pub conclusion_read : SignatureSeen → List Raw → ℕ → List TextToken → Part → Step
 conclusion_read sig before h rest c = Ends (Read (bracketed sig before h c) rest)
 
-abbrev pub conclusion_complete : Signature → List Raw → ℕ → Part → List TextToken → Step
+abbrev pub conclusion_complete : SignatureSeen → List Raw → ℕ → Part → List TextToken → Step
 conclusion_complete sig before h p rest = complete sig wanted.Proposition p (conclusion_read sig before h rest)
 
-abbrev pub arrow : Signature → ℕ → List Raw → ℕ → List TextToken → Step
+abbrev pub arrow : SignatureSeen → ℕ → List Raw → ℕ → List TextToken → Step
 arrow sig d before h later = expect_arrow later (conclusion sig d before h)
 
-abbrev pub premise_read : Signature → ℕ → List Raw → ℕ → List TextToken → Part → Step
+abbrev pub premise_read : SignatureSeen → ℕ → List Raw → ℕ → List TextToken → Part → Step
 premise_read sig d before h later a = behind_premise sig d (before ++ (a.term ∷ [])) (max h (a.height + 2)) later
 
-abbrev pub premise_complete : Signature → ℕ → List Raw → ℕ → Part → List TextToken → Step
+abbrev pub premise_complete : SignatureSeen → ℕ → List Raw → ℕ → Part → List TextToken → Step
 premise_complete sig d before h p later = complete sig wanted.Proposition p (premise_read sig d before h later)
 
-abbrev pub premises_step : Signature → ℕ → Bool → List Raw → ℕ → List TextToken → Step
+abbrev pub premises_step : SignatureSeen → ℕ → Bool → List Raw → ℕ → List TextToken → Step
 premises_step sig d more before h rest = cond more (premises sig d before h rest) (expect mark.ClosePremises rest (arrow sig d before h))
 
-pub more_premises : (sig : Signature) (d : ℕ) (before : List Raw) (h : ℕ) (more : Bool) (later rest : List TextToken) → more ≡ starts mark.Semicolon later → rest ≡ cond more (behind_first later) later → Leads sig (behind_premise sig d before h later) (premises_step sig d more before h rest)
+pub more_premises : (sig : SignatureSeen) (d : ℕ) (before : List Raw) (h : ℕ) (more : Bool) (later rest : List TextToken) → more ≡ starts mark.Semicolon later → rest ≡ cond more (behind_first later) later → Leads sig (behind_premise sig d before h later) (premises_step sig d more before h rest)
 more_premises sig d before h true later rest e f =
     leads_both sig (behind_premise sig d before h later) (Goes (Premises d before h) rest) (premises sig d before h rest)
     (leads_equal sig (behind_premise sig d before h later) (Goes (Premises d before h) rest)
@@ -503,18 +503,18 @@ more_premises sig d before h false later rest e f =
     leads_equal sig (behind_premise sig d before h later) (expect mark.ClosePremises rest (arrow sig d before h))
     (ap (λ (b : Bool). cond b (Goes (Premises d before h) (behind_first later)) (expect mark.ClosePremises later (arrow sig d before h))) (sym e) ∙ ap (λ (l : List TextToken). expect mark.ClosePremises l (arrow sig d before h)) (sym f))
 
-pub premises_here : (sig : Signature) (d : ℕ) (tokens : List TextToken) (before : List Raw) (h : ℕ) (was : Bool) (rest : List TextToken) → Leads sig (premises sig d [] 0 tokens) (premises_step sig d was before h rest) → was ≡ true → Leads sig (premises sig d [] 0 tokens) (premises sig d before h rest)
+pub premises_here : (sig : SignatureSeen) (d : ℕ) (tokens : List TextToken) (before : List Raw) (h : ℕ) (was : Bool) (rest : List TextToken) → Leads sig (premises sig d [] 0 tokens) (premises_step sig d was before h rest) → was ≡ true → Leads sig (premises sig d [] 0 tokens) (premises sig d before h rest)
 premises_here sig d tokens before h was rest a w =
     leads_both sig (premises sig d [] 0 tokens) (premises_step sig d was before h rest) (premises sig d before h rest) a
     (leads_equal sig (premises_step sig d was before h rest) (premises sig d before h rest) (ap (λ (b : Bool). premises_step sig d b before h rest) w))
 
-pub premises_done : (sig : Signature) (d : ℕ) (tokens : List TextToken) (before : List Raw) (h : ℕ) (was : Bool) (rest : List TextToken) → Leads sig (premises sig d [] 0 tokens) (premises_step sig d was before h rest) → was ≡ false → Leads sig (premises sig d [] 0 tokens) (expect mark.ClosePremises rest (arrow sig d before h))
+pub premises_done : (sig : SignatureSeen) (d : ℕ) (tokens : List TextToken) (before : List Raw) (h : ℕ) (was : Bool) (rest : List TextToken) → Leads sig (premises sig d [] 0 tokens) (premises_step sig d was before h rest) → was ≡ false → Leads sig (premises sig d [] 0 tokens) (expect mark.ClosePremises rest (arrow sig d before h))
 premises_done sig d tokens before h was rest a w =
     leads_both sig (premises sig d [] 0 tokens) (premises_step sig d was before h rest) (expect mark.ClosePremises rest (arrow sig d before h)) a
     (leads_equal sig (premises_step sig d was before h rest) (expect mark.ClosePremises rest (arrow sig d before h)) (ap (λ (b : Bool). premises_step sig d b before h rest) w))
 
 -- one premise more
-pub premise_more : (sig : Signature) (d : ℕ) (tokens : List TextToken) (before new : List Raw) (h height : ℕ) (p q : Part) (was more : Bool) (rest later next : List TextToken)
+pub premise_more : (sig : SignatureSeen) (d : ℕ) (tokens : List TextToken) (before new : List Raw) (h height : ℕ) (p q : Part) (was more : Bool) (rest later next : List TextToken)
     → Leads sig (premises sig d [] 0 tokens) (premises_step sig d was before h rest) → was ≡ true
     → Runs sig (step sig (Operand (d + 2) wanted.Proposition 0) rest) (Read p later) → ((g : Part → Step) → complete sig wanted.Proposition p g ≡ g q)
     → new ≡ before ++ (q.term ∷ []) → height ≡ max h (q.height + 2) → more ≡ starts mark.Semicolon later → next ≡ cond more (behind_first later) later
@@ -541,17 +541,17 @@ behind_shorter [] = omega arith
 behind_shorter (t ∷ ts) = omega arith
 
 -- whole texts
-abbrev pub text_complete : Signature → Part → List TextToken → Step
+abbrev pub text_complete : SignatureSeen → Part → List TextToken → Step
 text_complete sig p rest = complete sig wanted.Proposition p (λ q. at_end q rest)
 
-pub text_read : (sig : Signature) (ts : List TextToken) (p q : Part) (rest : List TextToken) → rest ≡ [] → Runs sig (step sig (Operand 0 wanted.Proposition 0) ts) (Read p rest) → ((g : Part → Step) → complete sig wanted.Proposition p g ≡ g q) → Runs sig (text sig ts) (Read q [])
+pub text_read : (sig : SignatureSeen) (ts : List TextToken) (p q : Part) (rest : List TextToken) → rest ≡ [] → Runs sig (step sig (Operand 0 wanted.Proposition 0) ts) (Read p rest) → ((g : Part → Step) → complete sig wanted.Proposition p g ≡ g q) → Runs sig (text sig ts) (Read q [])
 text_read sig ts p q rest e r c =
     leads_both sig (text sig ts) (text_complete sig p rest) (at_end q rest)
     (leads_inside sig (text sig ts) (Operand 0 wanted.Proposition 0) ts (text_complete sig) p rest refl r)
     (leads_complete sig wanted.Proposition wanted.Proposition p q (λ x. at_end x rest) refl c)
     (Read q []) (subst (λ (l : List TextToken). Runs sig (at_end q l) (Read q [])) (sym e) (ends (Read q [])))
 
-pub text_refused : (sig : Signature) (cause : Refusal) (ts : List TextToken) (p q : Part) (rest after : List TextToken) (first : TextToken) → rest ≡ first ∷ after → IsThe (why expected.EndOfText rest) cause → Runs sig (step sig (Operand 0 wanted.Proposition 0) ts) (Read p rest) → ((g : Part → Step) → complete sig wanted.Proposition p g ≡ g q) → FailsBy sig cause (text sig ts)
+pub text_refused : (sig : SignatureSeen) (cause : Refusal) (ts : List TextToken) (p q : Part) (rest after : List TextToken) (first : TextToken) → rest ≡ first ∷ after → IsThe (why expected.EndOfText rest) cause → Runs sig (step sig (Operand 0 wanted.Proposition 0) ts) (Read p rest) → ((g : Part → Step) → complete sig wanted.Proposition p g ≡ g q) → FailsBy sig cause (text sig ts)
 text_refused sig cause ts p q rest after first e h r c =
     fails_later sig cause (text sig ts) (at_end q rest)
     (leads_both sig (text sig ts) (text_complete sig p rest) (at_end q rest)

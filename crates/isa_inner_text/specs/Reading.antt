@@ -28,7 +28,7 @@ use Rattle.isa_inner_text.specs.declared.refusal.Expected.{Expected}
 use Rattle.isa_inner_text.specs.declared.refusal.Expected.TheVariants as expected
 use Rattle.isa_inner_text.specs.declared.refusal.Refusal.{Refusal}
 use Rattle.isa_inner_text.specs.declared.refusal.Refusal.TheVariants as refusal
-use Rattle.isa_inner_text.specs.declared.signature.Signature.{Signature}
+use Rattle.isa_inner_text.specs.Signatures.{SignatureSeen}
 use Rattle.isa_inner_text.specs.declared.part.Part.{Part}
 use Rattle.isa_inner_text.specs.declared.part.Variable.{Variable}
 use Rattle.isa_inner_text.specs.Parts.{closed, parenthesised, applied, annotated, joined, prefixed, bound, bracketed, judged}
@@ -138,7 +138,7 @@ abbrev pub with_judgment : Option (List ℕ) → Part → (Part → Step) → St
 with_judgment None p go = Ends (Refused refusal.Judgment)
 with_judgment (Some J) p go = go (judged J p)
 
-abbrev pub complete : Signature → Wanted → Part → (Part → Step) → Step
+abbrev pub complete : SignatureSeen → Wanted → Part → (Part → Step) → Step
 complete sig wanted.Proposition p go = cond p.is_proposition (go p) (with_judgment sig.judgment p go)
 complete sig w p go = go p
 
@@ -158,7 +158,7 @@ begins m (token.Other (term.Binder s) ∷ ts) = nat_le m (binder_own s)
 begins m ts = false
 
 -- an operand, by its first token
-abbrev pub front : Signature → ℕ → ℕ → List TextToken → Step
+abbrev pub front : SignatureSeen → ℕ → ℕ → List TextToken → Step
 front sig d m (token.Name x n ∷ ts) = Goes (Behind d m (closed (RawName x))) ts
 front sig d m (token.Other (term.Unknown x) ∷ ts) = Goes (Behind d m (closed (RawUnknown x))) ts
 front sig d m (token.Open ∷ ts) =
@@ -182,7 +182,7 @@ abbrev pub unless_deep : ℕ → Step → Step
 unless_deep d go = cond (nat_lt d limit) go (Ends (Refused refusal.Deep))
 
 -- the right operand, the type or the next argument
-abbrev pub further : Signature → ℕ → ℕ → Part → List TextToken → Step
+abbrev pub further : SignatureSeen → ℕ → ℕ → Part → List TextToken → Step
 further sig d m left (token.Other (term.Infix s) ∷ ts) =
     complete sig (infix_operands s) left (λ l. unless_deep (d + l.height)
     (Inside (Operand (d + 1) (infix_operands s) (infix_right s)) ts (and_then (λ p later.
@@ -217,46 +217,46 @@ variable d first ts go =
     (InType (d + 1) (behind_first rest) (λ T h later. go (variable_of x (Some T)) (h + 1) true later))
     (go (variable_of x None) 0 false rest)))
 
-abbrev pub body : Signature → ℕ → BinderSign → List Variable → ℕ → List TextToken → Step
+abbrev pub body : SignatureSeen → ℕ → BinderSign → List Variable → ℕ → List TextToken → Step
 body sig d s vs h ts =
     Inside (Operand (d + (operators s + length vs)) (binder_body s) (binder_own s)) ts (and_then (λ p rest.
     complete sig (binder_body s) p (λ q. Ends (Read (bound sig s vs h q) rest))))
 
-abbrev pub behind_variable : Signature → ℕ → BinderSign → List Variable → ℕ → Bool → List TextToken → Step
+abbrev pub behind_variable : SignatureSeen → ℕ → BinderSign → List Variable → ℕ → Bool → List TextToken → Step
 behind_variable sig d s vs h only ts = cond (not only && is_variable ts) (Goes (Bindings d s vs h) ts) (expect mark.Dot ts (body sig d s vs h))
 
 abbrev pub is_first : List Variable → Bool
 is_first [] = true
 is_first (v ∷ vs) = false
 
-abbrev pub bindings : Signature → ℕ → BinderSign → List Variable → ℕ → List TextToken → Step
+abbrev pub bindings : SignatureSeen → ℕ → BinderSign → List Variable → ℕ → List TextToken → Step
 bindings sig d s vs h ts = variable d (is_first vs) ts (λ v k only rest. behind_variable sig d s (vs ++ (v ∷ [])) (max h k) only rest)
 
 -- Premises in brackets
 
-abbrev pub conclusion : Signature → ℕ → List Raw → ℕ → List TextToken → Step
+abbrev pub conclusion : SignatureSeen → ℕ → List Raw → ℕ → List TextToken → Step
 conclusion sig d premises h ts =
     Inside (Operand (d + 1) wanted.Proposition 1) ts (and_then (λ p rest. complete sig wanted.Proposition p (λ c. Ends (Read (bracketed sig premises h c) rest))))
 
-abbrev pub behind_premise : Signature → ℕ → List Raw → ℕ → List TextToken → Step
+abbrev pub behind_premise : SignatureSeen → ℕ → List Raw → ℕ → List TextToken → Step
 behind_premise sig d premises h ts =
     cond (starts mark.Semicolon ts)
     (Goes (Premises d premises h) (behind_first ts))
     (expect mark.ClosePremises ts (λ later. expect_arrow later (conclusion sig d premises h)))
 
-abbrev pub premises : Signature → ℕ → List Raw → ℕ → List TextToken → Step
+abbrev pub premises : SignatureSeen → ℕ → List Raw → ℕ → List TextToken → Step
 premises sig d before h ts =
     Inside (Operand (d + 2) wanted.Proposition 0) ts (and_then (λ p later. complete sig wanted.Proposition p (λ a.
     behind_premise sig d (before ++ (a.term ∷ [])) (max h (a.height + 2)) later)))
 
-abbrev pub step : Signature → Place → List TextToken → Step
+abbrev pub step : SignatureSeen → Place → List TextToken → Step
 step sig (Operand d w m) ts = cond (nat_lt limit d) (Ends (Refused refusal.Deep)) (cond (begins m ts) (front sig d m ts) (refuse (operand_expected w) ts))
 step sig (Behind d m left) ts = cond (is_met ts) (refuse expected.EndOfText ts) (cond (goes_on m left ts) (further sig d m left ts) (Ends (Read left ts)))
 step sig (Bindings d s vs h) ts = bindings sig d s vs h ts
 step sig (Premises d before h) ts = premises sig d before h ts
 
 -- What comes of a step in the end. A type is read by the grammar of types.
-pub data Runs (sig : Signature) : Step → Outcome → Type 0 where
+pub data Runs (sig : SignatureSeen) : Step → Outcome → Type 0 where
   ends : (o : Outcome) → Runs sig (Ends o) o
   goes : (p : Place) (ts : List TextToken) (o : Outcome) → Runs sig (step sig p ts) o → Runs sig (Goes p ts) o
   inside : (p : Place) (ts : List TextToken) (after : Outcome → Step) (part o : Outcome) → Runs sig (step sig p ts) part → Runs sig (after part) o → Runs sig (Inside p ts after) o
@@ -270,9 +270,9 @@ abbrev pub at_end : Part → List TextToken → Step
 at_end p [] = Ends (Read p [])
 at_end p (t ∷ ts) = refuse expected.EndOfText (t ∷ ts)
 
-abbrev pub text : Signature → List TextToken → Step
+abbrev pub text : SignatureSeen → List TextToken → Step
 text sig ts = Inside (Operand 0 wanted.Proposition 0) ts (and_then (λ p rest. complete sig wanted.Proposition p (λ q. at_end q rest)))
 
 -- Tokens have one outcome at most.
 abbrev pub OneOutcome : Type 0
-OneOutcome = (sig : Signature) (s : Step) (o u : Outcome) → Runs sig s o → Runs sig s u → o ≡ u
+OneOutcome = (sig : SignatureSeen) (s : Step) (o u : Outcome) → Runs sig s o → Runs sig s u → o ≡ u

@@ -1,7 +1,5 @@
 -- What the tokens of a text are where this is declared, and the constants that its signs and its propositions name.
 use Rattle.std.specs.Prelude.{ℕ, Bool, true, false, if◌then◌else◌, List, [], ◌∷◌, Option, Some, None, slice_get}
-use Rattle.indexmap.specs.IndexMap.{get}
-use Rattle.isa_terms.specs.Equal.{name_eq}
 use Rattle.isa_inner.specs.declared.token.Mark.{Mark}
 use Rattle.isa_inner.specs.declared.token.Mark.TheVariants as mark
 use Rattle.isa_inner.specs.declared.token.Token.{Token}
@@ -18,7 +16,7 @@ use Rattle.isa_inner_tokens.specs.declared.cutting.Kind.{Kind}
 use Rattle.isa_inner_tokens.specs.declared.cutting.Kind.TheVariants as kind
 use Rattle.isa_inner_tokens.specs.declared.cutting.Word.{Word}
 use Rattle.isa_inner_tokens.specs.declared.cutting.Word.TheVariants as word
-use Rattle.isa_inner_text.specs.declared.signature.Signature.{Signature}
+use Rattle.isa_inner_text.specs.Signatures.{SignatureSeen, arity_of}
 
 -- the name, or the empty one
 abbrev pub or_empty : Option (List ℕ) → List ℕ
@@ -26,15 +24,15 @@ or_empty None = []
 or_empty (Some x) = x
 
 -- the constant that a sign names by this number
-abbrev pub constant : Signature → ℕ → List ℕ
+abbrev pub constant : SignatureSeen → ℕ → List ℕ
 constant sig c = or_empty (slice_get sig.notated c)
 
 -- an unknown stands in schematic texts alone
 abbrev pub if_schematic : Bool → TextToken → List ℕ → TextToken
 if_schematic schematic t x = if schematic then t else token.Other (term.Schematic x)
 
-abbrev pub name_token : Signature → Bool → Kind → List ℕ → TextToken
-name_token sig schematic kind.Name x = token.Name x (get name_eq sig.arities x)
+abbrev pub name_token : SignatureSeen → Bool → Kind → List ℕ → TextToken
+name_token sig schematic kind.Name x = token.Name x (arity_of sig x)
 name_token sig schematic kind.Unknown x = if_schematic schematic (token.Other (term.Unknown x)) x
 name_token sig schematic kind.TypeVariable x = token.Variable x
 name_token sig schematic kind.TypeUnknown x = if_schematic schematic (token.Unknown x) x
@@ -65,12 +63,12 @@ type_mark_token type_mark.CloseList = token.CloseList
 type_mark_token type_mark.Comma = token.Comma
 
 -- the token that a word is
-abbrev pub token_of : Signature → Bool → Word → TextToken
+abbrev pub token_of : SignatureSeen → Bool → Word → TextToken
 token_of sig schematic (word.Named k x) = name_token sig schematic k x
 token_of sig schematic (word.Sign (sign.Term t)) = sign_token t
 token_of sig schematic (word.Sign (sign.Type m)) = type_mark_token m
 token_of sig schematic (word.Unknown symbol) = token.Other (term.Symbol symbol)
 
-abbrev pub tokens_of : Signature → Bool → List Word → List TextToken
+abbrev pub tokens_of : SignatureSeen → Bool → List Word → List TextToken
 tokens_of sig schematic [] = []
 tokens_of sig schematic (w ∷ ws) = token_of sig schematic w ∷ tokens_of sig schematic ws

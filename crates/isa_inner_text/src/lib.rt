@@ -10,7 +10,7 @@ mod signature;
 mod text;
 mod tokens;
 
-pub use laws::one_reading;
+pub use laws::{one_reading, reads_phrases};
 pub use refusal::{Expected, Refusal};
 pub use signature::Signature;
 pub use text::{read_raw, read_typ};

@@ -70,7 +70,7 @@ fn with_judgment(alloc: Global, sig: &Signature, part: Part) -> Result<Part, Ref
         (λ why. why ≢ refusal.Memory → (go : Part → Step) → with_judgment sig.now.judgment part go ≡ Ends (Refused why)) }
     ensures height { IfOk result (λ whole. whole.height ≡ part.height) }
 {
-    match &sig.judgment {
+    match sig.judgment() {
         None => Err(Refusal::Judgment),
         Some(judgment) => Ok(judged(alloc, judgment, part)?),
     }

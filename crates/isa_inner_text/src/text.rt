@@ -22,7 +22,7 @@ pub fn read_raw(
 ) -> Result<RawTerm, Refusal>
     ensures { Answers sig.now schematic text.now result }
 {
-    let words = words(alloc, &sig.signs, text)?;
+    let words = words(alloc, sig.signs(), text)?;
     let tokens = tokens(alloc, sig, schematic, words.as_slice())?;
     let part = whole(alloc, sig, tokens.as_slice())?;
     Ok(part.term)
@@ -37,7 +37,7 @@ pub fn read_typ(
 ) -> Result<Typ, Refusal>
     ensures { AnswersType sig.now schematic text.now result }
 {
-    let words = words(alloc, &sig.signs, text)?;
+    let words = words(alloc, sig.signs(), text)?;
     let tokens = tokens(alloc, sig, schematic, words.as_slice())?;
     match read_whole_type(alloc, tokens.as_slice()) {
         Ok(typ) => Ok(typ),

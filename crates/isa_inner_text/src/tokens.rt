@@ -20,7 +20,7 @@ fn name_token(
 {
     let copy = name.copy()?;
     match kind {
-        Kind::Name => Ok(TextToken::Name(copy, sig.arities.get(name).copied())),
+        Kind::Name => Ok(TextToken::Name(copy, sig.arity(name))),
         Kind::Unknown => {
             if schematic {
                 Ok(TextToken::Other(TermToken::Unknown(copy)))

@@ -1,1 +1,2 @@
 pub mod CuttingSteps
+pub mod Lengths

@@ -1,9 +1,9 @@
 -- How the bytes of a text are cut into words: blanks part them, and at each place the longest word that may stand there is
 -- taken; of a sign and a name of one length the sign. A place at which no word can stand ends the text with its symbol.
 -- Source: the lexical syntax of inner text of Isabelle (The Isabelle/Isar Reference Manual, "Inner syntax", "Lexical matters").
-use Rattle.std.specs.Prelude.{◌≡◌, ℕ, zero, suc, ◌+◌, ◌<◌, Bool, true, false, ◌&&◌, if◌then◌else◌, nat_eq, nat_le, min, List, [], ◌∷◌, length, take, drop, Option, Some, None, option_map}
+use Rattle.std.specs.Prelude.{◌≡◌, ℕ, zero, suc, ◌+◌, ◌<◌, Bool, true, false, ◌&&◌, if◌then◌else◌, nat_eq, nat_le, List, [], ◌∷◌, length, take, drop, Option, Some, None, option_map}
 use Rattle.std.specs.Option.{option_or}
-use Rattle.indexmap.specs.IndexMap.{get}
+use Rattle.std.specs.Map.{lookup}
 use Rattle.isa_terms.specs.Equal.{name_eq}
 use Rattle.isa_inner_tokens.specs.declared.sign.Sign.{Sign}
 use Rattle.isa_inner_tokens.specs.declared.sign.Signs.{Signs}
@@ -15,15 +15,16 @@ use Rattle.isa_inner_tokens.specs.Bytes.{is_blank, name_length}
 
 -- the sign with this spelling
 abbrev pub spelled : Signs → List ℕ → Option Sign
-spelled signs spelling = get name_eq signs.entries spelling
+spelled signs spelling = lookup (name_eq spelling) signs
 
 -- the longest sign of at most n bytes that a text begins with, and its length
 abbrev pub longest_sign : Signs → ℕ → List ℕ → Option (ℕ × Sign)
 longest_sign signs zero text = None
 longest_sign signs (suc n) text = option_or (option_map (λ s. (suc n, s)) (spelled signs (take (suc n) text))) (longest_sign signs n text)
 
+-- the longest sign that a text begins with, and its length
 abbrev pub sign_at : Signs → List ℕ → Option (ℕ × Sign)
-sign_at signs text = longest_sign signs (min signs.longest (length text)) text
+sign_at signs text = longest_sign signs (length text) text
 
 -- a name behind so many bytes, and the length of both
 abbrev pub sized : Kind → ℕ → List ℕ → Option (Kind × ℕ)

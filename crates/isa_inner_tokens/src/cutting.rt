@@ -31,11 +31,12 @@ pub enum Word {
 }
 
 /// The longest sign that the text begins with, and its length.
+#[tactic(auto, using(crate::proofs::Lengths::sought))]
 fn sign_at(alloc: Global, signs: &Signs, text: &[u8]) -> Result<Option<(usize, Sign)>, AllocError>
     ensures found { IfOk result (λ found. found ≡ sign_at signs.now text.now) }
     ensures within { IfOk result (λ found. IfSome found (λ f. (0 < f.0) × (f.0 ≤ length text.now))) }
 {
-    let mut count = signs.longest.min(text.len());
+    let mut count = signs.longest().min(text.len());
     'lengths: while 0 < count {
         let spelling = Name::from_bytes(alloc, &text[..count])?;
         if let Some(sign) = signs.sign(&spelling) {

@@ -9,7 +9,7 @@ use std::alloc::{AllocError, Global};
 
 /// Declares punctuation.
 fn declare_marks(alloc: Global, signs: &mut Signs) -> Result<(), AllocError>
-    ensures { OnOk result (signs.new.entries.entries ≡ declared mark_signs signs.old.entries.entries) }
+    ensures { OnOk result (signs.new ≡ declared mark_signs signs.old) }
 {
     signs.declare(
         Name::from_text(alloc, "(")?,
@@ -44,7 +44,7 @@ fn declare_marks(alloc: Global, signs: &mut Signs) -> Result<(), AllocError>
 
 /// Declares the operators and binders of the pure logic.
 fn declare_operators(alloc: Global, signs: &mut Signs) -> Result<(), AllocError>
-    ensures { OnOk result (signs.new.entries.entries ≡ declared operator_signs signs.old.entries.entries) }
+    ensures { OnOk result (signs.new ≡ declared operator_signs signs.old) }
 {
     signs.declare(
         Name::from_text(alloc, "==>")?,
@@ -71,7 +71,7 @@ fn declare_operators(alloc: Global, signs: &mut Signs) -> Result<(), AllocError>
 
 /// Declares punctuation of types.
 fn declare_type_marks(alloc: Global, signs: &mut Signs) -> Result<(), AllocError>
-    ensures { OnOk result (signs.new.entries.entries ≡ declared type_signs signs.old.entries.entries) }
+    ensures { OnOk result (signs.new ≡ declared type_signs signs.old) }
 {
     signs.declare(Name::from_text(alloc, "=>")?, Sign::Type(TypeMark::Arrow))?;
     signs.declare(Name::from_text(alloc, "[")?, Sign::Type(TypeMark::OpenList))?;
@@ -85,7 +85,7 @@ fn declare_type_marks(alloc: Global, signs: &mut Signs) -> Result<(), AllocError
 
 /// Declares the symbols that stand for operators and `=>`.
 fn declare_arrows(alloc: Global, signs: &mut Signs) -> Result<(), AllocError>
-    ensures { OnOk result (signs.new.entries.entries ≡ declared arrow_signs signs.old.entries.entries) }
+    ensures { OnOk result (signs.new ≡ declared arrow_signs signs.old) }
 {
     signs.declare(
         Name::from_text(alloc, "\\<Rightarrow>")?,
@@ -104,7 +104,7 @@ fn declare_arrows(alloc: Global, signs: &mut Signs) -> Result<(), AllocError>
 
 /// Declares the symbols that stand for binders and brackets.
 fn declare_symbols(alloc: Global, signs: &mut Signs) -> Result<(), AllocError>
-    ensures { OnOk result (signs.new.entries.entries ≡ declared symbol_signs signs.old.entries.entries) }
+    ensures { OnOk result (signs.new ≡ declared symbol_signs signs.old) }
 {
     signs.declare(
         Name::from_text(alloc, "\\<And>")?,
@@ -127,7 +127,7 @@ fn declare_symbols(alloc: Global, signs: &mut Signs) -> Result<(), AllocError>
 
 /// Declares the fixed signs.
 pub fn declare_fixed(alloc: Global, signs: &mut Signs) -> Result<(), AllocError>
-    ensures { OnOk result (signs.new.entries.entries ≡ declared symbol_signs (declared arrow_signs (declared type_signs (declared operator_signs (declared mark_signs signs.old.entries.entries))))) }
+    ensures { OnOk result (signs.new ≡ declared symbol_signs (declared arrow_signs (declared type_signs (declared operator_signs (declared mark_signs signs.old))))) }
 {
     declare_marks(alloc, signs)?;
     declare_operators(alloc, signs)?;

@@ -10,7 +10,7 @@ ghost use Rattle.isa_goal.specs.Follows.{Advances};
 ghost use Rattle.isa_resolution.specs.Resolution.{resolvent};
 ghost use Rattle.std.specs.Prelude.{Some};
 
-use isa_goal::{Found, State};
+use isa_goal::{Found, State, has_counted, inst_has_counted};
 use isa_kernel::Thm;
 use isa_terms::{Inst, Terms, copied, size, unknowns_of};
 use std::alloc::{AllocError, Global};
@@ -62,6 +62,9 @@ fn refined(
     ensures state { IfOk result (λ t. (news : List Tm) (c : Tm) → th.now ≡ rule_of (map (instance_of inst.now) news) c th.now.base → count ≡ length news → t ≡ resolvent place state.now news th.now.base inst.now) }
     ensures follows { IfOk result (λ t. Advances (propositions th.now.base) state.now t) }
 {
+    if inst_has_counted(inst) || has_counted(th.prop()) {
+        return Err(AllocError);
+    }
     match state.refine_inst(alloc, place, inst, th, count) {
         Ok(next) => Ok(next),
         Err(_) => Err(AllocError),

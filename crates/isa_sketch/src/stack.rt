@@ -41,6 +41,11 @@ impl Stack {
         self.thms.pop().ok_or(Fault::Words)
     }
 
+    /// The instance of the entries that were put.
+    pub fn inst(&self) -> &Inst {
+        &self.inst
+    }
+
     fn put_thm(&mut self, th: Thm) -> Result<(), Fault> {
         match self.thms.push(th) {
             Ok(()) => Ok(()),
@@ -178,7 +183,7 @@ impl Stack {
     fn of_premises(&mut self, alloc: Global, rule: Rule) -> Result<Thm, Fault> {
         let th = self.take_thm()?;
         let mut premises = Terms::new(alloc);
-        while !self.terms.is_empty() {
+        for _premise in 0..self.terms.len() {
             premises.push(self.terms.take()?)?;
         }
         answered(match rule {

@@ -19,8 +19,9 @@ impl TermStack {
         }
     }
 
-    pub fn is_empty(&self) -> bool {
-        self.items.is_empty()
+    /// How many terms there are.
+    pub fn len(&self) -> usize {
+        self.items.len()
     }
 
     /// Takes the term that was put last.

@@ -5,13 +5,11 @@ use Rattle.std.proofs.Math.ListN.{drop_of_length-le}
 use Rattle.std.specs.Prelude.{Result, Ok, Err}
 use Rattle.isa_kernel.specs.Theorem.{Theorem}
 use Rattle.isa_outer.specs.declared.refusal.Kind.{Kind}
-use Rattle.isa_outer.specs.declared.command.Constant.{Constant}
-use Rattle.isa_outer.specs.declared.command.Axiom.{Axiom}
 use Rattle.isa_outer.specs.declared.command.Declaration.{Declaration}
 use Rattle.isa_outer.specs.declared.method.Modifier.{Modifier}
 use Rattle.isa_theory.specs.Contexts.{ContextSeen}
-use Rattle.isa_theory.specs.Results.{◌>>=◌}
-use Rattle.isa_theory.specs.Applying.{known_fact, known_facts, all_known, with_new_constant, with_constants, with_axiom, with_axioms, declared_facts}
+use Rattle.isa_theory.specs.Results.{◌>>=◌, each}
+use Rattle.isa_theory.specs.Applying.{known_fact, known_facts, all_known, declared_facts}
 use Rattle.isa_outer.specs.Methods.{Method, At}
 use Rattle.isa_outer.specs.Methods as method
 use Rattle.isa_outer.specs.Private.Layers.{node_of}
@@ -92,56 +90,31 @@ pub facts_end : (c : ContextSeen) (xs : List (List ℕ)) (i : ℕ) (all : List T
 facts_end c xs i all h so =
     so.is ∙ ap (λ l. known_facts c l >>= (λ more. Ok (all ++ more))) (drop_of_length-le xs h) ∙ ap (λ (l : List Theorem). let z : Result (List Theorem) Kind = Ok l in z) (append-nil all)
 
--- ---- constants and axioms: the context so far
-pub record ConstantsSoFar (first now : ContextSeen) (ks : List Constant) (i : ℕ) : Type 0 where
-  pub is : with_constants first ks ≡ with_constants now (drop i ks)
+-- ---- one step for each item: the context so far
+pub record EachSoFar {B : Type 0} (f : ContextSeen → B → Result ContextSeen Kind) (first now : ContextSeen) (xs : List B) (i : ℕ) : Type 0 where
+  pub is : each f first xs ≡ each f now (drop i xs)
   pub grows : Grows first now
 
-pub constants_start : (c : ContextSeen) (ks : List Constant) → ConstantsSoFar c c ks 0
-constants_start c ks = record { is = refl; grows = grows_same c }
+pub each_start : {B : Type 0} (f : ContextSeen → B → Result ContextSeen Kind) (c : ContextSeen) (xs : List B) → EachSoFar f c c xs 0
+each_start f c xs = record { is = refl; grows = grows_same c }
 
-pub constants_next : (first now then : ContextSeen) (ks : List Constant) (i : ℕ) (k : Constant) → i < length ks → k ≡ get_or ks i k → ConstantsSoFar first now ks i →
-    with_new_constant now k.name k.typ ≡ Ok then → Grows now then → ConstantsSoFar first then ks (i + 1)
-constants_next first now then ks i k h at so e g =
+pub each_next : {B : Type 0} (f : ContextSeen → B → Result ContextSeen Kind) (first now then : ContextSeen) (xs : List B) (i : ℕ) (x : B) → i < length xs → x ≡ get_or xs i x → EachSoFar f first now xs i → f now x ≡ Ok then → Grows now then →
+    EachSoFar f first then xs (i + 1)
+each_next f first now then xs i x h at so e g =
     record {
-      is = so.is ∙ ap (λ l. with_constants now l) (drop_more ks i k h)
-          ∙ ap (λ r. r >>= (λ d. with_constants d (drop (i + 1) ks))) (subst (λ (y : Constant). with_new_constant now y.name y.typ ≡ Ok then) at e);
+      is = so.is ∙ ap (λ l. each f now l) (drop_more xs i x h)
+          ∙ ap (λ r. r >>= (λ d. each f d (drop (i + 1) xs))) (subst (λ y. f now y ≡ Ok then) at e);
       grows = grows_on first now then so.grows g;
     }
 
-pub constants_refused : (first now : ContextSeen) (ks : List Constant) (i : ℕ) (k : Constant) (cause : Kind) → i < length ks → k ≡ get_or ks i k → ConstantsSoFar first now ks i →
-    with_new_constant now k.name k.typ ≡ Err cause → with_constants first ks ≡ Err cause
-constants_refused first now ks i k cause h at so e =
-    so.is ∙ ap (λ l. with_constants now l) (drop_more ks i k h)
-    ∙ ap (λ r. r >>= (λ d. with_constants d (drop (i + 1) ks))) (subst (λ (y : Constant). with_new_constant now y.name y.typ ≡ Err cause) at e)
+pub each_refused : {B : Type 0} (f : ContextSeen → B → Result ContextSeen Kind) (first now : ContextSeen) (xs : List B) (i : ℕ) (x : B) (cause : Kind) → i < length xs → x ≡ get_or xs i x → EachSoFar f first now xs i → f now x ≡ Err cause →
+    each f first xs ≡ Err cause
+each_refused f first now xs i x cause h at so e =
+    so.is ∙ ap (λ l. each f now l) (drop_more xs i x h)
+    ∙ ap (λ r. r >>= (λ d. each f d (drop (i + 1) xs))) (subst (λ y. f now y ≡ Err cause) at e)
 
-pub constants_end : (first now : ContextSeen) (ks : List Constant) (i : ℕ) → length ks ≤ i → ConstantsSoFar first now ks i → with_constants first ks ≡ Ok now
-constants_end first now ks i h so = so.is ∙ ap (λ l. with_constants now l) (drop_of_length-le ks h)
-
-pub record AxiomsSoFar (first now : ContextSeen) (xs : List Axiom) (i : ℕ) : Type 0 where
-  pub is : with_axioms first xs ≡ with_axioms now (drop i xs)
-  pub grows : Grows first now
-
-pub axioms_start : (c : ContextSeen) (xs : List Axiom) → AxiomsSoFar c c xs 0
-axioms_start c xs = record { is = refl; grows = grows_same c }
-
-pub axioms_next : (first now then : ContextSeen) (xs : List Axiom) (i : ℕ) (a : Axiom) → i < length xs → a ≡ get_or xs i a → AxiomsSoFar first now xs i →
-    with_axiom now a.label.name a.prop ≡ Ok then → Grows now then → AxiomsSoFar first then xs (i + 1)
-axioms_next first now then xs i a h at so e g =
-    record {
-      is = so.is ∙ ap (λ l. with_axioms now l) (drop_more xs i a h)
-          ∙ ap (λ r. r >>= (λ d. with_axioms d (drop (i + 1) xs))) (subst (λ (y : Axiom). with_axiom now y.label.name y.prop ≡ Ok then) at e);
-      grows = grows_on first now then so.grows g;
-    }
-
-pub axioms_refused : (first now : ContextSeen) (xs : List Axiom) (i : ℕ) (a : Axiom) (cause : Kind) → i < length xs → a ≡ get_or xs i a → AxiomsSoFar first now xs i →
-    with_axiom now a.label.name a.prop ≡ Err cause → with_axioms first xs ≡ Err cause
-axioms_refused first now xs i a cause h at so e =
-    so.is ∙ ap (λ l. with_axioms now l) (drop_more xs i a h)
-    ∙ ap (λ r. r >>= (λ d. with_axioms d (drop (i + 1) xs))) (subst (λ (y : Axiom). with_axiom now y.label.name y.prop ≡ Err cause) at e)
-
-pub axioms_end : (first now : ContextSeen) (xs : List Axiom) (i : ℕ) → length xs ≤ i → AxiomsSoFar first now xs i → with_axioms first xs ≡ Ok now
-axioms_end first now xs i h so = so.is ∙ ap (λ l. with_axioms now l) (drop_of_length-le xs h)
+pub each_end : {B : Type 0} (f : ContextSeen → B → Result ContextSeen Kind) (first now : ContextSeen) (xs : List B) (i : ℕ) → length xs ≤ i → EachSoFar f first now xs i → each f first xs ≡ Ok now
+each_end f first now xs i h so = so.is ∙ ap (λ l. each f now l) (drop_of_length-le xs h)
 
 -- ---- the facts of modifiers
 pub modifiers_passed : (c : ContextSeen) (ms : List Modifier) (i : ℕ) (m : Modifier) → i < length ms → m ≡ get_or ms i m → all_known c (modifiers_facts ms) ≡ all_known c (modifiers_facts (drop i ms)) →

@@ -44,12 +44,6 @@ pub accepted : (s : Sort) (d : Declaration) (r : Option TheoryFail) (new : List 
     declared s d r c ≡ Ok (record c { theory = new })
 accepted s d r new c e n = ap (λ o. declared s d o c) e ∙ ap (λ (ds : List Declaration). let z : Result ContextSeen Kind = Ok (record c { theory = ds }) in z) (sym n)
 
-pub grows_declared : (c : ContextSeen) (d : Declaration) (new : List Declaration) → new ≡ c.theory ++ d ∷ [] → Grows c (record c { theory = new })
-grows_declared c d new e = record { theory = goes_more c.theory (d ∷ []) new e; facts = goes_same c.facts; judgment = refl }
-
-pub grows_unchanged : (c : ContextSeen) (new : List Declaration) → new ≡ c.theory → Grows c (record c { theory = new })
-grows_unchanged c new e = record { theory = record { more = []; is = e ∙ sym (append-nil c.theory) }; facts = goes_same c.facts; judgment = refl }
-
 -- a function that returned the refusal of a step
 pub answers_refused : {A : Type 0} (wanted : Result A Kind) (r : Result A Kind) (k : Kind) → IsErrAnd r (λ e. e ≡ k) → (k ≢ kind.Memory → wanted ≡ Err k) → Answers r wanted
 answers_refused {A} wanted (Ok a) k h f = absurd h

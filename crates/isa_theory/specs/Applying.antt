@@ -7,8 +7,9 @@ use Rattle.isa_terms.specs.Terms.{Tm}
 use Rattle.isa_kernel.specs.Forms.{predicate_of}
 use Rattle.isa_kernel.specs.Theorem.{Theorem}
 use Rattle.isa_kernel.specs.Theories.{constant_type, type_refusal, constant_refusal, axiom_refusal, axiom_prop, axiom_theorem}
-use Rattle.isa_kernel.specs.declared.declarations.Declaration.{Declaration}
+use Rattle.isa_kernel.specs.declared.declarations.Declaration.{Declaration as TheoryDeclaration}
 use Rattle.isa_kernel.specs.declared.declarations.Declaration.TheVariants.{Constructor, Constant, Axiom}
+use Rattle.isa_kernel.specs.declared.logic.Logic.{Logic}
 use Rattle.isa_kernel.specs.declared.declarations.TheoryFail.{TheoryFail}
 use Rattle.isa_kernel.specs.declared.declarations.TheoryFail.TheVariants as fail
 use Rattle.isa_outer.specs.declared.refusal.Kind.{Kind}
@@ -20,14 +21,20 @@ use Rattle.isa_outer.specs.declared.command.Inner.{Inner}
 use Rattle.isa_outer.specs.declared.command.Constant.{Constant as NewConstant}
 use Rattle.isa_outer.specs.declared.command.Label.{Label}
 use Rattle.isa_outer.specs.declared.command.Axiom.{Axiom as NewAxiom}
-use Rattle.isa_outer.specs.declared.command.Declaration.{Declaration as Declared}
+use Rattle.isa_outer.specs.declared.command.Declaration.{Declaration}
+use Rattle.isa_outer.specs.declared.command.Attribute.{Attribute}
+use Rattle.isa_outer.specs.declared.command.Attribute.TheVariants as attribute
+use Rattle.isa_outer.specs.declared.command.Setting.{Setting}
 use Rattle.isa_outer.specs.declared.command.Command.{Command}
 use Rattle.isa_outer.specs.declared.command.Command.TheVariants as command
 use Rattle.isa_texts.specs.declared.signature.Variables.TheVariants as variables
-use Rattle.isa_theory.specs.Contexts.{ContextSeen, fact_of, signature_of}
+use Rattle.isa_theory.specs.Contexts.{ContextSeen, fact_of, judgment_name, signature_of}
+use Rattle.isa_theory.specs.declared.lemma.Lemma.{Lemma}
 use Rattle.isa_theory.specs.MethodFacts.{method_facts}
 use Rattle.isa_theory.specs.Reading.{read_type, read_prop}
-use Rattle.isa_theory.specs.Results.{◌>>=◌, or_refused}
+use Rattle.isa_theory.specs.Options.{with_setting}
+use Rattle.isa_theory.specs.Results.{◌>>=◌, each, or_refused}
+use Rattle.isa_theory.specs.Roles.{has_form, with_role, role_name}
 
 -- ---- what the theory refuses
 -- the refusal of a declaration of this sort; a text that is read names no undeclared constant
@@ -40,7 +47,7 @@ kind_of s (fail.NotProp T) = kind.Types
 kind_of s fail.Memory = kind.Memory
 
 -- the declaration stands last, if nothing refuses it
-abbrev pub declared : Sort → Declaration → Option TheoryFail → ContextSeen → Result ContextSeen Kind
+abbrev pub declared : Sort → TheoryDeclaration → Option TheoryFail → ContextSeen → Result ContextSeen Kind
 declared s d None c = Ok (record c { theory = c.theory ++ d ∷ [] })
 declared s d (Some fault) c = Err (kind_of s fault)
 
@@ -83,8 +90,7 @@ with_new_constant c x text = do
 
 -- constants, one after the other
 abbrev pub with_constants : ContextSeen → List NewConstant → Result ContextSeen Kind
-with_constants c [] = Ok c
-with_constants c (k ∷ ks) = with_new_constant c k.name k.typ >>= (λ d. with_constants d ks)
+with_constants c ks = each (λ d k. with_new_constant d k.name k.typ) c ks
 
 abbrev pub have_notation : List NewConstant → Bool
 have_notation [] = false
@@ -144,33 +150,59 @@ with_axiom c x text = do
 
 -- axioms, one after the other
 abbrev pub with_axioms : ContextSeen → List NewAxiom → Result ContextSeen Kind
-with_axioms c [] = Ok c
-with_axioms c (a ∷ more) = with_axiom c a.label.name a.prop >>= (λ d. with_axioms d more)
+with_axioms c axioms = each (λ d a. with_axiom d a.label.name a.prop) c axioms
 
-abbrev pub have_attributes : List NewAxiom → Bool
-have_attributes [] = false
-have_attributes (a ∷ more) = is_some_list a.label.attributes || have_attributes more
+-- ---- attributes
+-- the facts with a role after an attribute, which asks for the role's form; j is the judgment's name
+unfoldable pub logic_with : List ℕ → Logic → Attribute → Theorem → Result Logic Kind
+logic_with j l (attribute.Logic r) th = if has_form j r th.prop then Ok (with_role l r th) else Err (kind.Role (role_name r))
+logic_with j l _ th = Ok l
+
+-- The theorem is declared by the attribute. What it is for the simplifier and the classical reasoner is kept and not looked at.
+unfoldable pub with_attribute : ContextSeen → Attribute → Theorem → Result ContextSeen Kind
+with_attribute c a th = do
+  l ← logic_with (judgment_name c.judgment) c.logic a th
+  Ok (record c { declarations = c.declarations ++ record { attribute = a; thm = th } ∷ []; logic = l })
+
+-- an attribute acts on each of the theorems
+unfoldable pub with_attribute_on : ContextSeen → List Theorem → Attribute → Result ContextSeen Kind
+with_attribute_on c ths a = each (λ d th. with_attribute d a th) c ths
+
+-- attributes act one after the other
+unfoldable pub with_attributes : ContextSeen → List Attribute → List Theorem → Result ContextSeen Kind
+with_attributes c attributes ths = each (λ d a. with_attribute_on d ths a) c attributes
+
+-- the attributes of a fact act
+unfoldable pub with_declared : ContextSeen → List ℕ → List Attribute → Result ContextSeen Kind
+with_declared c x attributes = known_fact c x >>= (λ ths. with_attributes c attributes ths)
+
+-- all of the axioms are declared before their attributes act
+abbrev pub with_labels : ContextSeen → List NewAxiom → Result ContextSeen Kind
+with_labels c axioms = each (λ d a. with_declared d a.label.name a.label.attributes) c axioms
 
 unfoldable pub with_axiomatization : ContextSeen → List NewAxiom → Result ContextSeen Kind
-with_axiomatization c axioms = with_axioms c axioms >>= (λ d. unless_built (have_attributes axioms) d)
+with_axiomatization c axioms = with_axioms c axioms >>= (λ d. with_labels d axioms)
 
 unfoldable pub with_lemmas : ContextSeen → Label → List (List ℕ) → Result ContextSeen Kind
 with_lemmas c label xs = do
   u ← new_fact c label.name
   ths ← known_facts c xs
-  unless_built (is_some_list label.attributes) (with_fact c label.name ths)
+  with_attributes (with_fact c label.name ths) label.attributes ths
 
--- facts whose attributes change; without attributes nothing changes
-abbrev pub declared_facts : List Declared → List (List ℕ)
+-- facts whose attributes act once all of the facts were found
+abbrev pub declared_facts : List Declaration → List (List ℕ)
 declared_facts [] = []
 declared_facts (d ∷ ds) = d.fact ∷ declared_facts ds
 
-abbrev pub are_declared : List Declared → Bool
-are_declared [] = false
-are_declared (d ∷ ds) = is_some_list d.attributes || are_declared ds
+abbrev pub with_each_declared : ContextSeen → List Declaration → Result ContextSeen Kind
+with_each_declared c ds = each (λ e d. with_declared e d.fact d.attributes) c ds
 
-unfoldable pub with_declarations : ContextSeen → List Declared → Result ContextSeen Kind
-with_declarations c ds = all_known c (declared_facts ds) >>= (λ u. unless_built (are_declared ds) c)
+unfoldable pub with_declarations : ContextSeen → List Declaration → Result ContextSeen Kind
+with_declarations c ds = all_known c (declared_facts ds) >>= (λ u. with_each_declared c ds)
+
+-- ---- options
+unfoldable pub with_option : ContextSeen → Setting → Result ContextSeen Kind
+with_option c s = with_setting c.options s >>= (λ o. Ok (record c { options = o }))
 
 -- the facts of its method are there
 unfoldable pub with_wrapper : ContextSeen → List (List ℕ) → Result ContextSeen Kind
@@ -185,20 +217,31 @@ abbrev pub new_label : ContextSeen → Option Label → Result (Unit {0}) Kind
 new_label c None = Ok tt
 new_label c (Some label) = new_fact c label.name
 
+abbrev pub label_attributes : Option Label → List Attribute
+label_attributes None = []
+label_attributes (Some label) = label.attributes
+
 abbrev pub has_attributes : Option Label → Bool
 has_attributes None = false
 has_attributes (Some label) = is_some_list label.attributes
 
 -- the proposition that a lemma of a new name is about
-unfoldable pub goal_of : ContextSeen → Option Label → Inner → Result Tm Kind
-goal_of c label text = do
+unfoldable pub prop_of : ContextSeen → Option Label → Inner → Result Tm Kind
+prop_of c label text = do
   u ← new_label c label
-  p ← read_prop (signature_of c) variables.Fixed text
-  unless_built (has_attributes label) p
+  read_prop (signature_of c) variables.Fixed text
+
+-- the same for a lemma without attributes
+unfoldable pub goal_of : ContextSeen → Option Label → Inner → Result Tm Kind
+goal_of c label text = prop_of c label text >>= (λ p. unless_built (has_attributes label) p)
+
+-- the lemma that is begun
+unfoldable pub lemma_of : ContextSeen → Option Label → Inner → Result Lemma Kind
+lemma_of c label text = prop_of c label text >>= (λ p. Ok (record { line = text.line; name = label_name label; attributes = label_attributes label; goal = p }))
 
 -- a lemma changes nothing until it is stored
 unfoldable pub with_goal : ContextSeen → Option Label → Inner → Result ContextSeen Kind
-with_goal c label text = goal_of c label text >>= (λ p. Ok c)
+with_goal c label text = prop_of c label text >>= (λ p. Ok c)
 
 -- ---- all commands
 -- The next context; the commands of a proof have none.
@@ -211,7 +254,7 @@ applied c (command.Lemma line label text) = with_goal c label text
 applied c (command.SchematicGoal line label text) = with_goal c label text
 applied c (command.Lemmas line label xs) = with_lemmas c label xs
 applied c (command.Declare line ds) = with_declarations c ds
-applied c (command.DeclareOption line setting) = Err kind.NotBuilt
+applied c (command.DeclareOption line setting) = with_option c setting
 applied c (command.Wrapper line safe before x m) = with_wrapper c (method_facts m)
 applied c (command.Apply line m) = Err kind.NoProof
 applied c (command.By line m) = Err kind.NoProof

@@ -1,4 +1,6 @@
 pub mod Results
+pub mod Options
+pub mod Roles
 pub mod Contexts
 pub mod Reading
 pub mod MethodFacts

@@ -1,20 +1,22 @@
 //! What each command does to the context.
-ghost use Rattle.std.specs.Prelude.{◌≡◌, Ok};
+ghost use Rattle.std.specs.Prelude.{◌≡◌, Ok, IfOk};
 ghost use Rattle.std.specs.Option.{option_copied};
-ghost use Rattle.isa_theory.specs.Applying.{all_known, with_new_constant, with_constants, have_notation, with_consts, with_judgment, with_axioms, have_attributes, with_axiomatization, with_lemmas, declared_facts, are_declared, with_declarations, with_wrapper, new_label, has_attributes, goal_of, with_goal, applied, line_of, Applies, is_some_list};
+ghost use Rattle.isa_theory.specs.Applying.{all_known, with_new_constant, with_constants, have_notation, with_consts, with_judgment, with_axioms, with_labels, with_axiomatization, with_lemmas, declared_facts, with_each_declared, with_declarations, with_wrapper, new_label, label_name, label_attributes, has_attributes, prop_of, goal_of, lemma_of, with_goal, applied, line_of, Applies, is_some_list};
 ghost use Rattle.isa_theory.specs.MethodFacts.{method_facts};
 ghost use Rattle.isa_theory.specs.Private.Growing.{Grows, GrowsIfRefused, Becomes};
 ghost use Rattle.isa_theory.specs.Results.{Answers};
 
 use crate::context::Context;
 use crate::kinds::{built, new_name};
+use crate::lemma::Lemma;
 use isa_kernel::prop_type;
 use isa_outer::{
-    Attributes, Axiom, Command, Constant, Declaration, Inner, Kind, Label, Method, Refused, Sort,
+    Attribute, Attributes, Axiom, Command, Constant, Declaration, Inner, Kind, Label, Method,
+    Refused, Sort,
 };
 use isa_terms::{Name, Names, Term, same_typ, split_function};
 use isa_texts::{Judgment, Variables};
-use std::alloc::Global;
+use std::alloc::{AllocError, Global};
 
 /// Whether there are attributes.
 fn are_some(attributes: &Attributes) -> bool
@@ -35,30 +37,6 @@ fn have_notation(constants: &[Constant]) -> bool
     false
 }
 
-/// Whether one of the axioms has attributes.
-fn have_attributes(axioms: &[Axiom]) -> bool
-    ensures { result ≡ have_attributes axioms.now }
-{
-    for axiom in axioms {
-        if are_some(&axiom.label.attributes) {
-            return true;
-        }
-    }
-    false
-}
-
-/// Whether one of the facts is declared with attributes.
-fn are_declared(declarations: &[Declaration]) -> bool
-    ensures { result ≡ are_declared declarations.now }
-{
-    for declaration in declarations {
-        if are_some(&declaration.attributes) {
-            return true;
-        }
-    }
-    false
-}
-
 /// Whether a lemma has attributes.
 fn has_attributes(label: Option<&Label>) -> bool
     ensures { result ≡ has_attributes (option_copied label.entry) }
@@ -67,6 +45,37 @@ fn has_attributes(label: Option<&Label>) -> bool
         Some(label) => are_some(&label.attributes),
         None => false,
     }
+}
+
+/// The name of a lemma, where it has one.
+fn label_name(label: Option<&Label>) -> Result<Option<Name>, AllocError>
+    ensures { IfOk result (λ name. name ≡ label_name (option_copied label.entry)) }
+{
+    match label {
+        Some(label) => Ok(Some(label.name.copy()?)),
+        None => Ok(None),
+    }
+}
+
+/// The attributes of a lemma.
+fn label_attributes(alloc: Global, label: Option<&Label>) -> Result<Attributes, AllocError>
+    ensures { IfOk result (λ attributes. attributes ≡ label_attributes (option_copied label.entry)) }
+{
+    match label {
+        Some(label) => copy_attributes(alloc, label.attributes.as_slice()),
+        None => Ok(Attributes::new(alloc)),
+    }
+}
+
+fn copy_attributes(alloc: Global, attributes: &[Attribute]) -> Result<Attributes, AllocError>
+    ensures { IfOk result (λ copy. copy ≡ attributes.now) }
+{
+    let Some((last, front)) = attributes.split_last() else {
+        return Ok(Attributes::new(alloc));
+    };
+    let mut copy = copy_attributes(alloc, front)?;
+    copy.push(*last)?;
+    Ok(copy)
 }
 
 impl Context {
@@ -131,13 +140,24 @@ impl Context {
         Ok(())
     }
 
+    /// The attributes of all the axioms act.
+    fn declare_labels(&mut self, alloc: Global, axioms: &[Axiom]) -> Result<(), Kind>
+        ensures becomes { Becomes result self.new (with_labels self.old axioms.now) }
+        ensures grows { Grows self.old self.new }
+    {
+        for axiom in axioms {
+            self.declare_fact(alloc, &axiom.label.name, &axiom.label.attributes)?;
+        }
+        Ok(())
+    }
+
     #[tactic(auto, unfolding(crate::specs::Applying::with_axiomatization))]
     fn axiomatize(&mut self, alloc: Global, axioms: &[Axiom]) -> Result<(), Kind>
         ensures becomes { Becomes result self.new (with_axiomatization self.old axioms.now) }
         ensures grows { Grows self.old self.new }
     {
         self.add_axioms(alloc, axioms)?;
-        built(have_attributes(axioms))
+        self.declare_labels(alloc, axioms)
     }
 
     #[tactic(auto, unfolding(crate::specs::Applying::with_lemmas))]
@@ -147,9 +167,8 @@ impl Context {
     {
         self.new_fact(&label.name)?;
         let thms = self.known_facts(alloc, facts.as_slice())?;
-        built(are_some(&label.attributes))?;
-        self.push_fact(label.name.copy()?, thms)?;
-        Ok(())
+        self.push_fact(label.name.copy()?, thms.copy(alloc)?)?;
+        self.act(alloc, label.attributes.as_slice(), thms.as_slice())
     }
 
     fn check_declared(&self, declarations: &[Declaration]) -> Result<(), Kind>
@@ -161,12 +180,23 @@ impl Context {
         Ok(())
     }
 
+    fn declare_each(&mut self, alloc: Global, declarations: &[Declaration]) -> Result<(), Kind>
+        ensures becomes { Becomes result self.new (with_each_declared self.old declarations.now) }
+        ensures grows { Grows self.old self.new }
+    {
+        for declaration in declarations {
+            self.declare_fact(alloc, &declaration.fact, &declaration.attributes)?;
+        }
+        Ok(())
+    }
+
     #[tactic(auto, unfolding(crate::specs::Applying::with_declarations))]
-    fn declare_facts(&self, declarations: &[Declaration]) -> Result<(), Kind>
-        ensures { Becomes result self.now (with_declarations self.now declarations.now) }
+    fn declare_facts(&mut self, alloc: Global, declarations: &[Declaration]) -> Result<(), Kind>
+        ensures becomes { Becomes result self.new (with_declarations self.old declarations.now) }
+        ensures grows { Grows self.old self.new }
     {
         self.check_declared(declarations)?;
-        built(are_declared(declarations))
+        self.declare_each(alloc, declarations)
     }
 
     #[tactic(auto, unfolding(crate::specs::Applying::with_wrapper))]
@@ -186,22 +216,43 @@ impl Context {
         }
     }
 
-    /// The proposition that a lemma of a new name is about.
+    #[tactic(auto, unfolding(crate::specs::Applying::prop_of))]
+    fn prop(&self, alloc: Global, label: Option<&Label>, text: &Inner) -> Result<Term, Kind>
+        ensures { Answers result (prop_of self.now (option_copied label.entry) text.now) }
+    {
+        self.new_label(label)?;
+        self.read_prop(alloc, Variables::Fixed, text)
+    }
+
+    /// The proposition that a lemma of a new name and without attributes is about.
     #[tactic(auto, unfolding(crate::specs::Applying::goal_of))]
     pub fn goal(&self, alloc: Global, label: Option<&Label>, text: &Inner) -> Result<Term, Kind>
         ensures { Answers result (goal_of self.now (option_copied label.entry) text.now) }
     {
-        self.new_label(label)?;
-        let prop = self.read_prop(alloc, Variables::Fixed, text)?;
+        let prop = self.prop(alloc, label, text)?;
         built(has_attributes(label))?;
         Ok(prop)
+    }
+
+    /// The lemma of a new name that is begun with this text.
+    #[tactic(auto, unfolding(crate::specs::Applying::lemma_of))]
+    pub fn lemma(&self, alloc: Global, label: Option<&Label>, text: &Inner) -> Result<Lemma, Kind>
+        ensures { Answers result (lemma_of self.now (option_copied label.entry) text.now) }
+    {
+        let goal = self.prop(alloc, label, text)?;
+        Ok(Lemma {
+            line: text.line,
+            name: label_name(label)?,
+            attributes: label_attributes(alloc, label)?,
+            goal,
+        })
     }
 
     #[tactic(auto, unfolding(crate::specs::Applying::with_goal))]
     fn check_goal(&self, alloc: Global, label: Option<&Label>, text: &Inner) -> Result<(), Kind>
         ensures { Becomes result self.now (with_goal self.now (option_copied label.entry) text.now) }
     {
-        self.goal(alloc, label, text)?;
+        self.prop(alloc, label, text)?;
         Ok(())
     }
 
@@ -224,8 +275,10 @@ impl Context {
                 self.check_goal(alloc, label.as_ref(), prop)
             }
             Command::Lemmas { label, facts, .. } => self.name_facts(alloc, label, facts),
-            Command::Declare { declarations, .. } => self.declare_facts(declarations.as_slice()),
-            Command::DeclareOption { .. } => Err(Kind::NotBuilt),
+            Command::Declare { declarations, .. } => {
+                self.declare_facts(alloc, declarations.as_slice())
+            }
+            Command::DeclareOption { setting, .. } => self.set_option(*setting),
             Command::Wrapper { method, .. } => self.declare_wrapper(method),
             Command::Apply { .. }
             | Command::By { .. }
@@ -241,7 +294,7 @@ impl Context {
     pub fn apply(&mut self, alloc: Global, command: &Command) -> Result<(), Refused>
         ensures { Applies command.now self.old result self.new }
     {
-        let mark = self.mark();
+        let mark = self.mark()?;
         match self.take(alloc, command) {
             Ok(()) => Ok(()),
             Err(kind) => {

@@ -6,20 +6,25 @@ ghost use Rattle.isa_kernel.specs.Theories.{axiom_prop, axiom_refusal};
 ghost use Rattle.isa_kernel.specs.declared.declarations.Declaration.TheVariants.{Axiom};
 ghost use Rattle.isa_outer.specs.declared.refusal.Sort.TheVariants as sort;
 ghost use Rattle.isa_theory.specs.Contexts.{empty_context, fact_of, judgment_name, signature_of};
-ghost use Rattle.isa_theory.specs.Applying.{all_known, new_constant, known_fact, known_facts, new_fact, with_type, with_constant, with_typed, with_fact, declared, axiom_fact, with_axiom};
-ghost use Rattle.isa_theory.specs.Private.Growing.{Grows, Becomes, BecomesWith};
+ghost use Rattle.isa_theory.specs.Applying.{all_known, new_constant, known_fact, known_facts, new_fact, with_type, with_constant, with_typed, with_fact, declared, axiom_fact, with_axiom, with_option, logic_with, with_attribute};
+ghost use Rattle.isa_theory.specs.Storing.{with_closed};
+ghost use Rattle.isa_theory.specs.Private.Growing.{Grows, IsMark, Becomes, BecomesWith};
 ghost use Rattle.isa_theory.specs.Reading.{read_prop};
 ghost use Rattle.isa_theory.specs.Results.{Answers, AnswersBy};
 
+use crate::declared::Declared;
 use crate::kinds::{kind_of, new_name};
+use crate::options::Options;
 use crate::reading::{read_prop, read_type};
+use crate::roles::{has_form, role_name, with_role};
 use indexmap::IndexMap;
-use isa_kernel::{AxiomFail, Theory, Thm, Thms, axiom};
-use isa_outer::{Inner, Kind, Sort};
+use isa_kernel::{AxiomFail, Logic, Theory, Thm, Thms, axiom};
+use isa_outer::{Attribute, Inner, Kind, Setting, Sort};
 use isa_terms::{Name, Term, Typ};
 use isa_texts::{Judgment, Signature, Variables};
 use std::alloc::{AllocError, Global};
 use std::marker::Model;
+use std::rc::Rc;
 
 /// What is declared and proved. A fact is a list of theorems under a name.
 #[derive(Drop)]
@@ -27,6 +32,10 @@ pub struct Context {
     theory: Theory,
     judgment: Option<Judgment>,
     facts: IndexMap<Name, Thms>,
+    declarations: Vec<Declared>,
+    logic: Rc<Logic>,
+    options: Options,
+    lemmas: Vec<Thm>,
 }
 
 impl Model for Context {
@@ -36,7 +45,16 @@ impl Model for Context {
 
     ghost coded = { context_code };
 
-    ghost view = { λ c. record { theory = c.theory; judgment = c.judgment; facts = c.facts.entries } };
+    ghost view = { λ c. record { theory = c.theory; judgment = c.judgment; facts = c.facts.entries; declarations = c.declarations.items; logic = c.logic.value; options = c.options; lemmas = c.lemmas.items } };
+}
+
+/// How much there was in a context, and the roles that facts had.
+#[derive(Drop)]
+pub(crate) struct Mark {
+    theory: usize,
+    facts: usize,
+    declarations: usize,
+    logic: Rc<Logic>,
 }
 
 impl Context {
@@ -48,6 +66,10 @@ impl Context {
             theory: Theory::new(alloc)?,
             judgment: None,
             facts: IndexMap::new(alloc),
+            declarations: Vec::new(alloc),
+            logic: Rc::new(alloc, Logic::new(alloc))?,
+            options: Options::new(),
+            lemmas: Vec::new(alloc),
         })
     }
 
@@ -70,6 +92,34 @@ impl Context {
         ensures { option_copied result ≡ fact_of self.now name.now }
     {
         self.facts.get(name)
+    }
+
+    /// The theorems that attributes declared, in their order.
+    pub fn declarations(&self) -> &[Declared]
+        ensures { result.now ≡ self.now.declarations }
+    {
+        self.declarations.as_slice()
+    }
+
+    /// The facts with a role.
+    pub fn logic(&self) -> &Logic
+        ensures { result.now ≡ self.now.logic }
+    {
+        self.logic.as_ref()
+    }
+
+    /// What the options are set to.
+    pub fn options(&self) -> &Options
+        ensures { result.now ≡ self.now.options }
+    {
+        &self.options
+    }
+
+    /// The lemmas closed so far, with and without a name, each cited by its place.
+    pub fn lemmas(&self) -> &[Thm]
+        ensures { result.now ≡ self.now.lemmas }
+    {
+        self.lemmas.as_slice()
     }
 
     /// The name of the judgment, the empty one where none is declared.
@@ -257,22 +307,86 @@ impl Context {
         Ok(())
     }
 
-    /// How many declarations and facts there are.
-    pub(crate) fn mark(&self) -> (usize, usize)
-        ensures theory { result.0 ≡ length self.now.theory }
-        ensures facts { result.1 ≡ length self.now.facts }
+    /// Sets an option anew.
+    #[tactic(auto, unfolding(crate::specs::Applying::with_option))]
+    pub(crate) fn set_option(&mut self, setting: Setting) -> Result<(), Kind>
+        ensures becomes { Becomes result self.new (with_option self.old setting) }
+        ensures unchanged { OnErr result (self.new ≡ self.old) }
     {
-        (self.theory.mark(), self.facts.len())
+        self.options = self.options.with(setting)?;
+        Ok(())
     }
 
-    /// Takes out the declarations and facts behind the first ones.
-    pub(crate) fn undo_to(&mut self, mark: (usize, usize))
-        requires theory { mark.0 ≤ length self.old.theory }
-        requires facts { mark.1 ≤ length self.old.facts }
-        ensures { self.new ≡ record self.old { theory = take mark.0 self.old.theory; facts = take mark.1 self.old.facts } }
+    /// The facts with a role after an attribute.
+    #[tactic(auto, unfolding(crate::specs::Applying::logic_with))]
+    fn logic_with(&self, alloc: Global, attribute: Attribute, thm: &Thm) -> Result<Rc<Logic>, Kind>
+        ensures { AnswersBy (λ l. l.value) result (logic_with (judgment_name self.now.judgment) self.now.logic attribute thm.now) }
     {
-        self.theory.undo_to(mark.0);
-        self.facts.truncate(mark.1);
+        let Attribute::Logic(role) = attribute else {
+            return Ok(self.logic.clone()?);
+        };
+        let judgment = self.judgment_name(alloc)?;
+        if !has_form(alloc, &judgment, role, thm.prop())? {
+            return Err(Kind::Role(role_name(alloc, role)?));
+        }
+        Ok(Rc::new(alloc, with_role(alloc, &self.logic, role, thm)?)?)
+    }
+
+    /// Declares a theorem by an attribute.
+    #[tactic(auto, unfolding(crate::specs::Applying::with_attribute))]
+    pub(crate) fn declare_theorem(
+        &mut self,
+        alloc: Global,
+        attribute: Attribute,
+        thm: &Thm,
+    ) -> Result<(), Kind>
+        ensures becomes { Becomes result self.new (with_attribute self.old attribute thm.now) }
+        ensures grows { Grows self.old self.new }
+    {
+        let logic = self.logic_with(alloc, attribute, thm)?;
+        let thm = thm.copy(alloc)?;
+        self.declarations.push(Declared { attribute, thm })?;
+        self.logic = logic;
+        Ok(())
+    }
+
+    /// How many lemmas were closed.
+    pub(crate) fn closed(&self) -> usize
+        ensures { result ≡ length self.now.lemmas }
+    {
+        self.lemmas.len()
+    }
+
+    /// Puts a closed lemma last.
+    pub(crate) fn push_lemma(&mut self, thm: Thm) -> Result<(), AllocError>
+        ensures ok { OnOk result (self.new ≡ with_closed self.old thm) }
+        ensures err { OnErr result (self.new ≡ self.old) }
+    {
+        self.lemmas.push(thm)?;
+        Ok(())
+    }
+
+    /// How much there is, and the roles that facts have.
+    pub(crate) fn mark(&self) -> Result<Mark, AllocError>
+        ensures { IfOk result (λ m. IsMark m self.now) }
+    {
+        Ok(Mark {
+            theory: self.theory.mark(),
+            facts: self.facts.len(),
+            declarations: self.declarations.len(),
+            logic: self.logic.clone()?,
+        })
+    }
+
+    /// Takes out what came behind the mark, and puts its roles in force.
+    pub(crate) fn undo_to(&mut self, mark: Mark)
+        requires theory { mark.theory ≤ length self.old.theory }
+        ensures { self.new ≡ record self.old { theory = take mark.theory self.old.theory; facts = take mark.facts self.old.facts; declarations = take mark.declarations self.old.declarations; logic = mark.logic.value } }
+    {
+        self.theory.undo_to(mark.theory);
+        self.facts.truncate(mark.facts);
+        self.declarations.truncate(mark.declarations);
+        self.logic = mark.logic;
     }
 }
 

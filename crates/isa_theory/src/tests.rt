@@ -24,8 +24,14 @@ fn applies_commands(rt: HostRuntime) -> Result<(), AllocError> {
             "2: duplicate fact a",
         ),
         ("done", "1: no proof is open"),
-        ("declare [[show_types]]", "1: not built yet"),
+        ("declare [[show_types]]", ""),
         ("wrapper safe before w = rule c", "1: unknown fact c"),
+        ("declare a [simp]", "1: unknown fact a"),
+        ("lemmas a [simp] = b", "1: unknown fact b"),
+        (
+            "typedecl o judgment J :: \"o => prop\"\naxiomatization where a [logic swap]: A",
+            "2: wrong form for swap",
+        ),
     ] {
         let mut context = Context::new(alloc)?;
         let mut last = String::new(alloc);

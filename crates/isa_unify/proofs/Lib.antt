@@ -14,7 +14,7 @@ pub mod ClashLaws
 pub mod Liftings
 pub mod Lists
 pub mod NoTypes
-pub mod ClosedTerms
+pub mod Unvisited
 pub mod LateLists
 pub mod LateSteps
 pub mod Once

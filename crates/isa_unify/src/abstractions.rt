@@ -3,7 +3,6 @@
 ghost use Rattle.std.specs.Prelude.{◌≡◌, map, IfOk};
 ghost use Rattle.isa_unify.specs.Unification.{no_variable, variable, bind_all, place_behind, moved, abstracted, arrows, range_behind, on_bounds, over};
 
-use crate::binders::is_closed;
 use crate::equation::{Binders, Variable};
 use isa_terms::{
     Name, Term, TermNode, Typ, TypNode, Typs, abstraction, function_type, split_function,
@@ -59,9 +58,13 @@ fn place_behind(numbers: &[u32], number: u32) -> Result<u32, AllocError>
 }
 
 /// The term, whose loose variables are among the numbers, under binders over them.
+#[tactic(auto, using(crate::proofs::Unvisited::moved_same))]
 fn moved(alloc: Global, numbers: &[u32], depth: u32, t: &Term) -> Result<Term, AllocError>
     ensures { IfOk result (λ r. r ≡ moved numbers.now depth t.now) }
 {
+    if t.loose_end() <= u64::from(depth) {
+        return t.copy();
+    }
     match t.view() {
         TermNode::Const(_, _) | TermNode::Free(_, _) | TermNode::Unknown(_, _, _) => t.copy(),
         TermNode::Bound(number) => {
@@ -87,7 +90,6 @@ fn moved(alloc: Global, numbers: &[u32], depth: u32, t: &Term) -> Result<Term, A
 }
 
 /// `%xs. t`, the xs being variables among the binders, which give their names and types.
-#[tactic(auto, using(crate::proofs::ClosedTerms::moved_closed))]
 pub fn abstracted(
     alloc: Global,
     binders: &Binders,
@@ -96,11 +98,7 @@ pub fn abstracted(
 ) -> Result<Term, AllocError>
     ensures { IfOk result (λ r. r ≡ abstracted binders.now numbers.now t.now) }
 {
-    let body = if is_closed(0, t)? {
-        t.copy()?
-    } else {
-        moved(alloc, numbers, 0, t)?
-    };
+    let body = moved(alloc, numbers, 0, t)?;
     bound_over(alloc, binders, numbers, body)
 }
 

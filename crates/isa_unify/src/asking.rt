@@ -12,9 +12,13 @@ use std::alloc::{AllocError, Global};
 
 /// Puts the type unknowns that have no entry yet behind the others, each as itself.
 #[cycle(asked)]
+#[tactic(auto, using(crate::proofs::Unvisited::no_type_asked))]
 fn add_type_unknowns(typ: &Typ, entries: &mut TypeEntries) -> Result<(), AllocError>
     ensures { OnOk result (entries.new ≡ with_type_unknowns entries.old typ.now) }
 {
+    if !typ.has_unknowns() {
+        return Ok(());
+    }
     match typ.view() {
         TypNode::Con(_, args) => add_all_type_unknowns(args.as_slice(), entries),
         TypNode::Fixed(_) => Ok(()),
@@ -45,9 +49,13 @@ fn add_all_type_unknowns(args: &[Typ], entries: &mut TypeEntries) -> Result<(), 
 }
 
 /// Puts the term's type unknowns behind the others.
+#[tactic(auto, using(crate::proofs::Unvisited::none_asked))]
 pub fn add_types(t: &Term, entries: &mut TypeEntries) -> Result<(), AllocError>
     ensures { OnOk result (entries.new ≡ with_types entries.old t.now) }
 {
+    if !t.has_type_unknowns() {
+        return Ok(());
+    }
     match t.view() {
         TermNode::Const(_, typ) | TermNode::Free(_, typ) | TermNode::Unknown(_, _, typ) => {
             add_type_unknowns(typ, entries)
@@ -65,9 +73,13 @@ pub fn add_types(t: &Term, entries: &mut TypeEntries) -> Result<(), AllocError>
 }
 
 /// Puts the term's unknowns that have no entry yet behind the others, each as itself.
+#[tactic(auto, using(crate::proofs::Unvisited::no_term_asked))]
 pub fn add_unknowns(t: &Term, entries: &mut TermEntries) -> Result<(), AllocError>
     ensures { OnOk result (entries.new ≡ with_unknowns entries.old t.now) }
 {
+    if !t.has_unknowns() {
+        return Ok(());
+    }
     match t.view() {
         TermNode::Const(_, _) | TermNode::Free(_, _) | TermNode::Bound(_) => Ok(()),
         TermNode::Unknown(name, number, typ) => {

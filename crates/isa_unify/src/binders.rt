@@ -1,7 +1,7 @@
 //! The binders round a place of a term.
 
 ghost use Rattle.std.specs.Prelude.{◌≡◌, slice_get, option_map, IfOk};
-ghost use Rattle.isa_unify.specs.Matching.{Binder, over, is_closed, solution};
+ghost use Rattle.isa_unify.specs.Matching.{Binder, over, solution};
 ghost use Rattle.isa_unify.specs.BinderLists.{binders_in, binder_of};
 
 use isa_terms::{Name, Term, TermNode, Typ, abstraction};
@@ -38,9 +38,13 @@ fn binder<'a>(binders: &Binders<'a>, number: u32) -> Option<Bound<'a>>
 }
 
 /// The body of the abstraction of t over the variable `number` of the binders round t.
+#[tactic(auto, using(crate::proofs::Unvisited::over_same))]
 pub fn over(alloc: Global, number: u32, depth: u32, t: &Term) -> Result<Term, AllocError>
     ensures { IfOk result (λ r. r ≡ over number depth t.now) }
 {
+    if t.loose_end() <= u64::from(depth) {
+        return t.copy();
+    }
     match t.view() {
         TermNode::Const(_, _) | TermNode::Free(_, _) | TermNode::Unknown(_, _, _) => t.copy(),
         TermNode::Bound(other) => {
@@ -64,18 +68,6 @@ pub fn over(alloc: Global, number: u32, depth: u32, t: &Term) -> Result<Term, Al
             let arg = over(alloc, number, depth, arg)?;
             Term::new(alloc, TermNode::App(fun, arg))
         }
-    }
-}
-
-/// Whether no bound variable of t is loose under `depth` more binders.
-pub fn is_closed(depth: u32, t: &Term) -> Result<bool, AllocError>
-    ensures { IfOk result (λ r. r ≡ is_closed depth t.now) }
-{
-    match t.view() {
-        TermNode::Const(_, _) | TermNode::Free(_, _) | TermNode::Unknown(_, _, _) => Ok(true),
-        TermNode::Bound(number) => Ok(*number < depth),
-        TermNode::Abs(_, _, body) => is_closed(depth.checked_add(1).ok_or(AllocError)?, body),
-        TermNode::App(fun, arg) => Ok(is_closed(depth, fun)? && is_closed(depth, arg)?),
     }
 }
 

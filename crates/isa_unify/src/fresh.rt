@@ -21,10 +21,14 @@ impl Model for Fresh {
 }
 
 /// The least number past those of the unknowns of the term.
+#[tactic(auto, using(crate::proofs::Unvisited::past_none))]
 fn past(t: &Term) -> u32
     requires { past t.now ≤ 4000000000 }
     ensures { result ≡ past t.now }
 {
+    if !t.has_unknowns() {
+        return 0;
+    }
     match t.view() {
         TermNode::Unknown(_, number, _) => *number + 1,
         TermNode::Const(_, _) | TermNode::Free(_, _) | TermNode::Bound(_) => 0,

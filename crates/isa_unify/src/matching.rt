@@ -8,7 +8,7 @@ ghost use Rattle.isa_terms.specs.Replace.{raise};
 ghost use Rattle.isa_unify.specs.Matching.{ty_matched, tys_matched, flexible, is_fixed, to_solve, bound_to, solved, typed, matched, closed_type, match_from, match_of, all_from, match_all_of, IsAsked, IsMatch, IsTheMatch, AreAsked, AreMatched, AllMatch, IsSettled, AreAskedFrom, AreMatchedFrom, AllMatchFrom};
 ghost use Rattle.isa_unify.specs.BinderLists.{binders_in, flexible_of};
 
-use crate::binders::{Binders, is_closed, solution};
+use crate::binders::{Binders, solution};
 use isa_terms::{
     IllTyped, Inst, Name, Term, TermNode, Typ, TypNode, find_term, find_type, inst_typ, raised,
     same_term, same_typ, type_of,
@@ -141,6 +141,7 @@ fn bind(alloc: Global, inst: &mut Inst, spine: &Spine<'_>, term: Term) -> Result
 }
 
 /// Adds the abstraction of the term over the unknown's arguments, where no variable stays loose in it.
+#[tactic(auto, using(crate::proofs::Unvisited::closed_below, crate::proofs::Unvisited::open_above))]
 fn solve(
     alloc: Global,
     binders: &Binders<'_>,
@@ -153,7 +154,7 @@ fn solve(
     let Some(found) = solution(alloc, binders, &spine.args, term)? else {
         return Ok(false);
     };
-    if !is_closed(0, &found)? {
+    if found.is_open() {
         return Ok(false);
     }
     bind(alloc, inst, spine, found)

@@ -1,7 +1,7 @@
 //! The first place of a term that decides for an unknown.
 
-ghost use Rattle.std.specs.Prelude.{◌≡◌, ◌∷◌, [], ◌++◌, cond, filter, IfOk};
-ghost use Rattle.isa_unify.specs.Spines.{has_number};
+ghost use Rattle.std.specs.Prelude.{◌≡◌, ◌∷◌, [], ◌++◌, false, cond, filter, IfOk, IsTrue};
+ghost use Rattle.isa_unify.specs.Spines.{has_number, is_flexible};
 ghost use Rattle.isa_unify.specs.declared.progress.Verdict.TheVariants.{Fine, Refused};
 ghost use Rattle.isa_unify.specs.Unification.{allowed, at_pattern, at_unknown, first_place};
 
@@ -147,6 +147,25 @@ pub fn first_place(
 ) -> Result<Verdict, AllocError>
     ensures { IfOk result (λ v. v ≡ first_place solved.now.name.now solved.now.number solved.now.variables.now depth binders.now t.now) }
 {
+    first_part(alloc, solved, depth, binders, t, false)
+}
+
+/// The same of a term, or of one that was a function part of it: then no unknown stands at its head.
+#[tactic(auto, using(crate::proofs::Unvisited::fine_within))]
+fn first_part(
+    alloc: Global,
+    solved: &Pattern<'_>,
+    depth: u32,
+    binders: &Binders,
+    t: &Term,
+    is_rigid: bool,
+) -> Result<Verdict, AllocError>
+    requires { IsTrue is_rigid → is_flexible t.now ≡ false }
+    ensures { IfOk result (λ v. v ≡ first_place solved.now.name.now solved.now.number solved.now.variables.now depth binders.now t.now) }
+{
+    if !t.has_unknowns() && t.loose_end() <= u64::from(depth) {
+        return Ok(Verdict::Fine);
+    }
     match t.view() {
         TermNode::Const(_, _) | TermNode::Free(_, _) => Ok(Verdict::Fine),
         TermNode::Unknown(name, number, typ) => {
@@ -157,16 +176,16 @@ pub fn first_place(
         TermNode::Abs(name, typ, body) => {
             let under = depth.checked_add(1).ok_or(AllocError)?;
             let binders = entered(alloc, binders, name, typ)?;
-            first_place(alloc, solved, under, &binders, body)
+            first_part(alloc, solved, under, &binders, body, false)
         }
         TermNode::App(fun, arg) => {
-            if is_flexible(fun) {
+            if !is_rigid && is_flexible(fun) {
                 let mut args = args_of(alloc, fun)?;
                 args.push(arg.copy()?)?;
                 return at_unknown(alloc, solved, depth, binders, head_of(fun), args.as_slice());
             }
-            match first_place(alloc, solved, depth, binders, fun)? {
-                Verdict::Fine => first_place(alloc, solved, depth, binders, arg),
+            match first_part(alloc, solved, depth, binders, fun, true)? {
+                Verdict::Fine => first_part(alloc, solved, depth, binders, arg, false),
                 verdict => Ok(verdict),
             }
         }

@@ -21,9 +21,13 @@ pub struct TypePair {
 
 /// Whether the type unknown stands in the type.
 #[cycle(stands)]
+#[tactic(auto, using(crate::proofs::Unvisited::ty_has_none))]
 fn stands(name: &Name, number: u32, typ: &Typ) -> bool
     ensures { result ≡ ty_has name.now number typ.now }
 {
+    if !typ.has_unknowns() {
+        return false;
+    }
     match typ.view() {
         TypNode::Con(_, args) => stand(name, number, args.as_slice()),
         TypNode::Fixed(_) => false,

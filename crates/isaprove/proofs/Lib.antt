@@ -4,3 +4,4 @@ pub mod InputLemmas
 pub mod SoundLemmas
 pub mod MatchLemmas
 pub mod CauseLemmas
+pub mod Uncounted

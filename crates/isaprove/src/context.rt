@@ -1,8 +1,9 @@
 //! What the commands so far declared and proved.
-ghost use Rattle.std.specs.Prelude.{◌≡◌, IfOk, IfSome, IfNone, Some, None, is_some, option_map};
+ghost use Rattle.std.specs.Prelude.{◌≡◌, IfOk, IfSome, IfNone, Some, None, false, is_some, option_map};
 ghost use Rattle.std.specs.Option.{option_copied};
 ghost use Rattle.isa_kernel.specs.Theories.{constant_type, axiom_refusal, axiom_prop, axiom_theorem};
 ghost use Rattle.isa_kernel.specs.declared.declarations.Declaration.TheVariants.{Axiom};
+ghost use Rattle.isa_goal.specs.Counted.{has_counted};
 ghost use Rattle.isa_goal.specs.Goals.{started};
 ghost use Rattle.isa_goal.specs.Names.{canon};
 ghost use Rattle.isaprove.specs.Answer.{Answers};
@@ -14,12 +15,13 @@ ghost use Rattle.isa_print.specs.Text.{state_text};
 ghost use Rattle.isaprove.specs.Taken.{Becomes, Printing};
 
 use crate::proof::{first_result, general_theorem};
+use crate::reading::read_prop;
 use crate::refusal::Refusal;
 use isa_goal::State;
 use isa_kernel::{AxiomFail, InferenceError, Theory, TheoryFail, Thm, axiom, prop_type};
 use isa_print::{state_text, theorem_text};
 use isa_terms::{Name, Term, Typ, function_type};
-use isa_texts::{Judgment, Signature, Variables, judged_type, prop_of_text, type_of_text};
+use isa_texts::{Judgment, Signature, Variables, judged_type, type_of_text};
 use std::alloc::{AllocError, Global};
 use std::marker::Model;
 
@@ -54,11 +56,11 @@ impl Model for Context {
 
     ghost coded = { context_code };
 
-    ghost use Rattle.isaprove.specs.Sound.{IsGrounded};
+    ghost use Rattle.isaprove.specs.Sound.{IsGrounded, AreUncounted};
 
     ghost view = { λ c. record { theory = c.theory; judgment = c.judgment; facts = c.facts.items; lemma = c.lemma } };
 
-    ghost invariant = { λ c. IsGrounded (record { theory = c.theory; judgment = c.judgment; facts = c.facts.items; lemma = c.lemma }) };
+    ghost invariant = { λ c. IsGrounded (record { theory = c.theory; judgment = c.judgment; facts = c.facts.items; lemma = c.lemma }) × AreUncounted c.facts.items };
 }
 
 impl Context {
@@ -167,7 +169,7 @@ impl Context {
         if self.fact(name).is_some() {
             return Err(Refusal::NotBuilt);
         }
-        let prop = prop_of_text(alloc, &self.signature(), Variables::Unknown, text)?;
+        let prop = read_prop(alloc, &self.signature(), Variables::Unknown, text)?;
         self.declare_axiom(alloc, name, &prop)?;
         let thm = self.axiom(alloc, name)?;
         self.facts.push(Fact {
@@ -247,6 +249,7 @@ impl Context {
         let Some(lemma) = self.lemma.take() else {
             return Err(Refusal::NotBuilt);
         };
+        lemma.state.is_uncounted();
         let Ok(thm) = lemma.state.finish() else {
             return Err(Refusal::NoResult);
         };
@@ -274,7 +277,7 @@ impl Context {
         if self.fact(name).is_some() {
             return Err(Refusal::NotBuilt);
         }
-        let prop = prop_of_text(alloc, &self.signature(), Variables::Fixed, text)?;
+        let prop = read_prop(alloc, &self.signature(), Variables::Fixed, text)?;
         let state = opening_state(alloc, &prop)?;
         self.lemma = Some(OpenLemma {
             line,
@@ -301,6 +304,7 @@ fn lemma_with(lemma: Option<OpenLemma>, state: State) -> Option<OpenLemma>
 
 /// The state in which the proposition is the only subgoal of itself.
 fn opening_state(alloc: Global, prop: &Term) -> Result<State, Refusal>
+    requires { has_counted prop.now ≡ false }
     ensures { Answers result (option_map canon (started prop.now)) }
 {
     match State::start(alloc, prop) {

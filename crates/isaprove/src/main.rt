@@ -5,6 +5,7 @@ mod context;
 mod engine;
 mod output;
 mod proof;
+mod reading;
 mod refusal;
 mod status;
 #[cfg(test)]

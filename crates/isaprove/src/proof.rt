@@ -1,5 +1,6 @@
 //! The commands of a proof.
-ghost use Rattle.std.specs.Prelude.{◌≡◌, ◌++◌, IfOk, OnOk};
+ghost use Rattle.std.specs.Prelude.{◌≡◌, ◌++◌, IfOk, OnOk, false};
+ghost use Rattle.isa_goal.specs.Counted.{has_counted};
 ghost use Rattle.isa_kernel.specs.Inferences.{generalized};
 ghost use Rattle.isa_kernel.specs.Theorem.{IsDerived};
 ghost use Rattle.isaprove.specs.Answer.{Answers};
@@ -13,7 +14,9 @@ use isa_terms::{Names, Term, TermNode};
 use std::alloc::{AllocError, Global};
 
 /// The first result of introduction by matching with the rule, at the first subgoal.
+#[tactic(auto, using(crate::proofs::Uncounted::rule_uncounted))]
 pub fn first_result(alloc: Global, rule: &Thm, state: &State) -> Result<State, Refusal>
+    requires { has_counted rule.now.prop ≡ false }
     ensures { FirstResult result rule.now state.now }
 {
     let mut rules = Thms::new(alloc);

@@ -8,7 +8,7 @@ use Rattle.isa_inner_types.specs.declared.reading.Fail.{Fail}
 use Rattle.isa_inner_types.specs.declared.reading.Fail.TheVariants as fail
 use Rattle.isa_inner_text.specs.declared.refusal.Refusal.{Refusal}
 use Rattle.isa_inner_text.specs.declared.refusal.Refusal.TheVariants as refusal
-use Rattle.isa_inner_text.specs.declared.signature.Signature.{Signature}
+use Rattle.isa_inner_text.specs.Signatures.{SignatureSeen}
 use Rattle.isa_inner_text.specs.Reading.{Outcome, Refused, Step, Runs, type_why}
 
 -- the cause is this one, or want of memory
@@ -16,11 +16,11 @@ abbrev pub IsThe : Refusal → Refusal → Type 0
 IsThe wanted cause = cause ≢ refusal.Memory → wanted ≡ cause
 
 -- the cause is the one that comes of the step
-abbrev pub FailsBy : Signature → Refusal → Step → Type 0
+abbrev pub FailsBy : SignatureSeen → Refusal → Step → Type 0
 FailsBy sig cause s = cause ≢ refusal.Memory → Runs sig s (Refused cause)
 
 -- what comes of the later step comes of the first
-abbrev pub Leads : Signature → Step → Step → Type 0
+abbrev pub Leads : SignatureSeen → Step → Step → Type 0
 Leads sig s later = (o : Outcome) → Runs sig later o → Runs sig s o
 
 -- no infix comes next

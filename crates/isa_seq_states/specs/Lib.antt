@@ -1,0 +1,3 @@
+pub mod Introductions
+pub mod Standing
+pub mod Laws

@@ -1,0 +1,4 @@
+pub mod Telling
+pub mod Growing
+pub mod OneTerm
+pub mod OneThing

@@ -1,0 +1,7 @@
+pub mod Syntaxes
+pub mod Notations
+pub mod Refusals
+pub mod Reading
+pub mod Growing
+pub mod Laws
+pub mod Private
