@@ -1,5 +1,5 @@
 -- The rules that inferences give once they are lifted: under the instance, and met by an assumption.
-use Rattle.std.proofs.Common.{◌≡◌, ℕ, ◌+◌, ◌<◌, List, [], ◌∷◌, ◌++◌, map, take, drop, get_or, length, arith, append-nil, Bool, true, false, ◌&&◌, not, cond, Option, Some, None, refl, sym, ap, ◌∙◌, subst}
+use Rattle.std.proofs.Common.{◌≡◌, ℕ, ◌+◌, ◌-◌, ◌<◌, List, [], ◌∷◌, ◌++◌, map, take, drop, get_or, length, arith, append-nil, Bool, true, false, ◌&&◌, not, cond, Option, Some, None, refl, sym, ap, ◌∙◌, subst}
 use Rattle.isa_terms.specs.Terms.{Tm}
 use Rattle.isa_terms.specs.Equal.{tm_eq}
 use Rattle.isa_terms.specs.Instance.{Instance, instance_of, in_tms}
@@ -85,16 +85,17 @@ met_is p kept th lifted given by met rest inst w t g hb hm he = λ first more q.
     let z : record { hyps = []; prop = implies (map (instance_of inst) ps) (instance_of inst c); base = joined_bases th.base [] } ≡ rest = cc (x.1) in
     sym z ∙ (λ j. rule_of (map (instance_of inst) ps) (instance_of inst c) (append-nil th.base j))
 
-pub met_found : (i : ℕ) (s : Goals) (p : Parts) (deletes : Bool) (kept : List Tm) (th by : Theorem) (at : ℕ) (inst : Instance) (k : ℕ) (f : Found) → IsMetRule p kept th inst by →
-    ((a : Tm) → a ≡ get_or p.assumptions at a → kept ≡ kept_of deletes (take at p.assumptions) a (drop (at + 1) p.assumptions)) →
-    ((news : List Tm) (c : Tm) → by ≡ rule_of (map (instance_of inst) news) c by.base → k ≡ length news → f ≡ limited (resolvent i s news by.base inst)) → IsFoundUnder i s p deletes th at inst k f
-met_found i s p deletes kept th by at inst k f m e r = λ a first rest g q n.
+pub met_found : (i : ℕ) (s : Goals) (p : Parts) (kept given : List Tm) (th by : Theorem) (inst : Instance) (k : ℕ) (ps : List Tm) (f : Found) → IsMetRule p given th inst by → given ≡ kept → ps ≡ [] ++ premises th.prop → k ≡ length ps - 1 →
+    ((news : List Tm) (c : Tm) → by ≡ rule_of (map (instance_of inst) news) c by.base → k ≡ length news → f ≡ limited (resolvent i s news by.base inst)) → IsFoundUnder i s p kept th inst f
+met_found i s p kept given th by inst k ps f m e l n r = λ first rest q.
     let b = m first rest q in
     let base : by.base ≡ th.base = ap (λ (x : Theorem). x.base) b in
-    let news : List Tm = map (lift_over p.parameters kept) rest in
+    let news : List Tm = map (lift_over p.parameters given) rest in
     let c : Tm = instance_of inst (lift_over p.parameters p.assumptions (conclusion th.prop)) in
-    r news c (b ∙ (λ j. rule_of (map (instance_of inst) news) c (sym base j))) (n ∙ sym (same_length (lift_over p.parameters kept) rest))
-    ∙ (λ j. limited (resolvent i s (map (lift_over p.parameters (e a g j)) rest) (base j) inst))
+    let count : length ps ≡ length (first ∷ rest) = ap length (l ∙ q) in
+    let fewer : k ≡ length rest = omega (arith, n, count) in
+    r news c (b ∙ (λ j. rule_of (map (instance_of inst) news) c (sym base j))) (fewer ∙ sym (same_length (lift_over p.parameters given) rest))
+    ∙ (λ j. limited (resolvent i s (map (lift_over p.parameters (e j)) rest) (base j) inst))
 
 -- its base
 pub lifted_instance_base : (inst : Instance) (th by : Theorem) → instantiated inst th ≡ Some by → by.base ≡ th.base

@@ -11,3 +11,5 @@ pub mod Elimination
 pub mod Bases
 pub mod Steps
 pub mod Searching
+pub mod Introduced
+pub mod Eliminated

@@ -4,10 +4,11 @@ use Rattle.isa_terms.specs.Terms.{Tm}
 use Rattle.isa_terms.specs.Equal.{tm_eq}
 use Rattle.isa_terms.specs.Instance.{Instance}
 use Rattle.isa_kernel.specs.Theorem.{Theorem}
-use Rattle.isa_subgoal.specs.Premises.{premises}
+use Rattle.isa_subgoal.specs.Premises.{premises, conclusion}
 use Rattle.isa_subgoal.specs.Parts.{Parts}
 use Rattle.isa_subgoal.specs.Lift.{lift_over}
 use Rattle.isa_clash.specs.Differing.{differ}
+use Rattle.isa_unify.specs.declared.unification.Unified.{Unified}
 use Rattle.isa_goal.specs.Goals.{Goals}
 use Rattle.isa_goal.specs.Resolving.{limited, with_first}
 use Rattle.isa_goal.specs.declared.found.Found.{Found}
@@ -17,7 +18,7 @@ use Rattle.isa_kernel.specs.Forms.{imp_parts}
 use Rattle.isa_resolution.specs.declared.modes.ModedRule.{ModedRule}
 use Rattle.isa_resolution.specs.declared.modes.ModedRule.TheVariants.{Intro}
 use Rattle.isa_resolution.specs.Ready.{normal}
-use Rattle.isa_resolution.specs.Problems.{ready, ready_case}
+use Rattle.isa_resolution.specs.Problems.{ready, ready_case, meeting, new_from, rule_answer}
 use Rattle.isa_resolution.specs.Resolution.{resolvent, kept_of, at_each, eliminated_at, closed_at, of_premised, by_rule}
 
 -- whether an assumption can't be the conclusion
@@ -31,11 +32,15 @@ pub record IsFoundAt (f : List Tm → Tm → List Tm → Option Found) (facts : 
   pub within : n ≤ length facts
   pub end : IfNone o (n ≡ length facts)
 
--- what a rule gives that meets the assumption at the place under the instance
-abbrev pub IsFoundUnder : ℕ → Goals → Parts → Bool → Theorem → ℕ → Instance → ℕ → Found → Type 0
-IsFoundUnder i s p deletes th at inst n f =
-    (a first : Tm) (rest : List Tm) → a ≡ get_or p.assumptions at a → premises th.prop ≡ first ∷ rest → n ≡ length rest →
-    f ≡ limited (resolvent i s (map (lift_over p.parameters (kept_of deletes (take at p.assumptions) a (drop (at + 1) p.assumptions))) rest) th.base inst)
+-- what a rule gives that meets an assumption under the instance, its other premises coming with the kept ones
+abbrev pub IsFoundUnder : ℕ → Goals → Parts → List Tm → Theorem → Instance → Found → Type 0
+IsFoundUnder i s p kept th inst f =
+    (first : Tm) (rest : List Tm) → premises th.prop ≡ first ∷ rest → f ≡ limited (resolvent i s (map (lift_over p.parameters kept) rest) th.base inst)
+
+-- what is answered for a rule with a premise and the assumption a
+abbrev pub IsAnswerAt : How → Parts → Theorem → Tm → Unified → Type 0
+IsAnswerAt h p th a u =
+    (first : Tm) (rest : List Tm) → premises th.prop ≡ first ∷ rest → u ≡ rule_answer h (meeting p.parameters (conclusion th.prop) p.conclusion ∷ meeting p.parameters first a ∷ []) (new_from th)
 
 -- what goes on where something was found
 abbrev pub after_of : Option Found → ℕ → Option ℕ

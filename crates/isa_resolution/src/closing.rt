@@ -31,6 +31,7 @@ fn is_hopeless(how: How, fact: &Term, goal: &Term) -> bool
 }
 
 /// What comes where the assumption is the conclusion under the instance: nothing is left of the subgoal.
+#[tactic(auto, using(crate::proofs::Elimination::closed_found, crate::proofs::Elimination::closed_follows))]
 fn closed_under(
     alloc: Global,
     state: &State,
@@ -82,6 +83,7 @@ fn closed_at(
 }
 
 /// What the assumptions from that one on give first, and how many are met then.
+#[tactic(auto, using(crate::proofs::Steps::found_here, crate::proofs::Steps::nothing_here))]
 pub(crate) fn closed(
     alloc: Global,
     how: How,

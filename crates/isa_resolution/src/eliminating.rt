@@ -1,13 +1,13 @@
 //! Elimination: a rule's conclusion with that of the subgoal, and its first premise with an assumption.
-ghost use Rattle.std.specs.Prelude.{◌≡◌, ◌<◌, ◌≤◌, ◌+◌, ◌++◌, ◌∷◌, [], true, map, length, take, drop, get_or, IfOk, IfNone, Some, List};
-ghost use Rattle.isa_terms.specs.Terms.{Tm};
+ghost use Rattle.std.specs.Prelude.{◌≡◌, ◌<◌, ◌≤◌, ◌+◌, true, map, length, take, drop, get_or, IfOk, Some};
 ghost use Rattle.isa_kernel.specs.Axioms.{propositions};
 ghost use Rattle.isa_kernel.specs.Inferences.{keeps};
 ghost use Rattle.isa_subgoal.specs.Premises.{premises};
 ghost use Rattle.isa_subgoal.specs.Lift.{lift_over};
 ghost use Rattle.isa_goal.specs.Resolving.{FollowsIfFound};
 ghost use Rattle.isa_resolution.specs.Resolution.{kept_of, eliminated_at};
-ghost use Rattle.isa_resolution.specs.Steps.{IsFoundAt, IsFoundUnder};
+ghost use Rattle.isa_resolution.specs.Steps.{IsFoundAt, IsFoundUnder, IsAnswerAt};
+ghost use Rattle.isa_resolution.specs.Unifiers.{IsKept};
 ghost use Rattle.isa_resolution.specs.Views.{parts_in, IsThinRule, IsMetRule};
 
 use crate::problems::{
@@ -30,15 +30,25 @@ use isa_unify::Unified;
 use std::alloc::{AllocError, Global};
 
 /// The assumptions that new subgoals have: all, or those but the one at the place.
-fn kept_of(alloc: Global, deletes: bool, facts: &[Term], at: usize) -> Result<Terms, AllocError>
-    requires { at < length facts.now }
-    ensures { IfOk result (λ r. (a : Tm) → a ≡ get_or facts.now at a → r ≡ kept_of deletes (take at facts.now) a (drop (at + 1) facts.now)) }
+#[tactic(auto, using(crate::proofs::Eliminated::kept_all, crate::proofs::Eliminated::kept_fewer))]
+fn kept_of(
+    alloc: Global,
+    deletes: bool,
+    facts: &[Term],
+    fact: &Term,
+    at: usize,
+) -> Result<Terms, AllocError>
+    requires within { at < length facts.now }
+    requires there { fact.now ≡ get_or facts.now at fact.now }
+    ensures { IfOk result (λ r. r ≡ kept_of deletes (take at facts.now) fact.now (drop (at + 1) facts.now)) }
 {
     if deletes {
         let (before, rest) = facts.split_at(at);
-        spliced(alloc, before, &[], &rest[1..])
+        let fewer = spliced(alloc, before, &[], &rest[1..])?;
+        Ok(fewer)
     } else {
-        copied(alloc, facts)
+        let all = copied(alloc, facts)?;
+        Ok(all)
     }
 }
 
@@ -119,24 +129,53 @@ fn eliminated_under(
     subject: &SubgoalParts,
     deletes: bool,
     rule: &Thm,
+    fact: &Term,
     at: usize,
     inst: &Inst,
-    count: usize,
 ) -> Result<Found, AllocError>
     requires kept { keeps inst.now.types inst.now.terms ≡ true }
-    requires place { at < length subject.now.assumptions }
-    ensures found { IfOk result (λ f. IsFoundUnder place state.now (parts_in subject.now) deletes rule.now at inst.now count f) }
+    requires within { at < length subject.now.assumptions }
+    requires there { fact.now ≡ get_or subject.now.assumptions at fact.now }
+    ensures found { IfOk result (λ f. IsFoundUnder place state.now (parts_in subject.now) (kept_of deletes (take at subject.now.assumptions) fact.now (drop (at + 1) subject.now.assumptions)) rule.now inst.now f) }
     ensures follows { IfOk result (λ f. FollowsIfFound (propositions rule.now.base) state.now (Some f)) }
 {
-    let facts = subject.assumptions.as_slice();
-    let kept = kept_of(alloc, deletes, facts, at)?;
-    let by = met_rule(alloc, subject, &facts[at], kept.as_slice(), rule, inst)?;
+    let count = split_all_premises(rule.prop(), Terms::new(alloc))?.premises.len().saturating_sub(1);
+    let kept = kept_of(alloc, deletes, subject.assumptions.as_slice(), fact, at)?;
+    let by = met_rule(alloc, subject, fact, kept.as_slice(), rule, inst)?;
     let found = found_by_rule(alloc, state, place, inst, &by, count)?;
     Ok(found)
 }
 
+/// What unification or matching answers for the rule's conclusion and that of the subgoal, and for its first premise and the
+/// assumption.
+#[tactic(auto, using(crate::proofs::Eliminated::unanswered, crate::proofs::Eliminated::elimination_answered))]
+fn elimination_answer(
+    alloc: Global,
+    how: How,
+    subject: &SubgoalParts,
+    rule: &Thm,
+    fact: &Term,
+) -> Result<Unified, AllocError>
+    ensures answer { IfOk result (λ u. IsAnswerAt how (parts_in subject.now) rule.now fact.now u) }
+    ensures kept { IfOk result (λ u. IsKept u) }
+{
+    let parameters = subject.parameters.as_slice();
+    let form = under_parameters(alloc, parameters, rule)?;
+    let Some((premise, _)) = form.premises.as_slice().split_first() else {
+        return Ok(Unified::No);
+    };
+    let pairs = [
+        meeting(alloc, parameters, &form.conclusion, &subject.conclusion)?,
+        meeting(alloc, parameters, premise, fact)?,
+    ];
+    let next = new_from(rule)?;
+    let answer = rule_answer(alloc, how, &pairs, next)?;
+    Ok(answer)
+}
+
 /// What a rule that is ready gives at the assumption of that place. Where its first premise or its conclusion has another
 /// head, nothing is lifted.
+#[tactic(auto, using(crate::proofs::Eliminated::none_without, crate::proofs::Eliminated::eliminated_outside, crate::proofs::Eliminated::premise_clashes, crate::proofs::Eliminated::eliminated_differs, crate::proofs::Eliminated::eliminated_no, crate::proofs::Eliminated::eliminated_none, crate::proofs::Eliminated::eliminated_yes))]
 fn eliminated_at(
     alloc: Global,
     how: How,
@@ -145,16 +184,17 @@ fn eliminated_at(
     subject: &SubgoalParts,
     deletes: bool,
     rule: &Thm,
+    fact: &Term,
     at: usize,
 ) -> Result<Option<Found>, AllocError>
-    requires { at < length subject.now.assumptions }
-    ensures found { IfOk result (λ o. (a : Tm) → a ≡ get_or subject.now.assumptions at a → o ≡ eliminated_at how place state.now (parts_in subject.now) deletes rule.now (take at subject.now.assumptions) a (drop (at + 1) subject.now.assumptions)) }
+    requires within { at < length subject.now.assumptions }
+    requires there { fact.now ≡ get_or subject.now.assumptions at fact.now }
+    ensures found { IfOk result (λ o. o ≡ eliminated_at how place state.now (parts_in subject.now) deletes rule.now (take at subject.now.assumptions) fact.now (drop (at + 1) subject.now.assumptions)) }
     ensures follows { IfOk result (λ o. FollowsIfFound (propositions rule.now.base) state.now o) }
 {
     let Some((first, _)) = split_imp(rule.prop()) else {
         return Ok(None);
     };
-    let fact = &subject.assumptions.as_slice()[at];
     let key = conclusion(rule.prop());
     if are_keys_outside(how, key, first) {
         return Ok(Some(Found::Outside));
@@ -165,38 +205,19 @@ fn eliminated_at(
     if differ(wants_patterns(how), key, &subject.conclusion) {
         return Ok(None);
     }
-    let parameters = subject.parameters.as_slice();
-    let form = under_parameters(alloc, parameters, rule)?;
-    let Some((premise, rest)) = form.premises.as_slice().split_first() else {
-        return Ok(None);
-    };
-    let pairs = [
-        meeting(alloc, parameters, &form.conclusion, &subject.conclusion)?,
-        meeting(alloc, parameters, premise, fact)?,
-    ];
-    let next = new_from(rule)?;
-    match rule_answer(alloc, how, &pairs, next)? {
+    match elimination_answer(alloc, how, subject, rule, fact)? {
         Unified::No => Ok(None),
         Unified::Outside => Ok(Some(Found::Outside)),
         Unified::Yes(inst) => {
-            let count = rest.len();
-            let found = eliminated_under(
-                alloc,
-                state,
-                place,
-                subject,
-                deletes,
-                rule,
-                at,
-                &inst,
-                count,
-            )?;
+            let found =
+                eliminated_under(alloc, state, place, subject, deletes, rule, fact, at, &inst)?;
             Ok(Some(found))
         }
     }
 }
 
 /// What the assumptions from that one on give first, and how many are met then.
+#[tactic(auto, using(crate::proofs::Steps::found_here, crate::proofs::Steps::nothing_here))]
 pub(crate) fn eliminated(
     alloc: Global,
     how: How,
@@ -211,10 +232,11 @@ pub(crate) fn eliminated(
     ensures found { IfOk result (λ r. IsFoundAt (eliminated_at how place state.now (parts_in subject.now) deletes rule.now) subject.now.assumptions met r.0 r.1) }
     ensures follows { IfOk result (λ r. FollowsIfFound (propositions rule.now.base) state.now r.0) }
 {
-    let count = subject.assumptions.len();
+    let facts = subject.assumptions.as_slice();
     let mut next = met;
-    while next < count {
-        let found = eliminated_at(alloc, how, state, place, subject, deletes, rule, next)?;
+    while next < facts.len() {
+        let found =
+            eliminated_at(alloc, how, state, place, subject, deletes, rule, &facts[next], next)?;
         next += 1;
         if found.is_some() {
             return Ok((found, next));

@@ -5,6 +5,7 @@ mod closing;
 mod compose;
 mod eliminating;
 mod introducing;
+mod laws;
 mod modes;
 mod places;
 mod problems;
@@ -18,5 +19,6 @@ mod thinning;
 mod unifiers;
 
 pub use compose::compose_rules;
+pub use laws::started_left;
 pub use modes::{ModedRule, ModedRules};
 pub use resolve::Resolve;

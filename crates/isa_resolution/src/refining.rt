@@ -62,7 +62,10 @@ fn refined(
     ensures state { IfOk result (λ t. (news : List Tm) (c : Tm) → th.now ≡ rule_of (map (instance_of inst.now) news) c th.now.base → count ≡ length news → t ≡ resolvent place state.now news th.now.base inst.now) }
     ensures follows { IfOk result (λ t. Advances (propositions th.now.base) state.now t) }
 {
-    if inst_has_counted(inst) || has_counted(th.prop()) {
+    if inst_has_counted(inst) {
+        return Err(AllocError);
+    }
+    if has_counted(th.prop()) {
         return Err(AllocError);
     }
     match state.refine_inst(alloc, place, inst, th, count) {

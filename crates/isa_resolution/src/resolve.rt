@@ -82,6 +82,7 @@ impl Resolve {
     }
 
     /// The next thing found; None comes at their end. After want of memory it comes again and again.
+    #[tactic(auto, using(crate::proofs::Searching::no_subject, crate::proofs::Searching::steps_is))]
     pub fn next(&mut self, alloc: Global) -> Result<Option<Found>, AllocError>
         ensures answer { Steps self.old result self.new }
         ensures same { SameSearch self.old self.new }

@@ -72,6 +72,7 @@ fn has_premise(alloc: Global, rule: &Thm) -> Result<bool, AllocError>
 }
 
 /// What a rule gives whose first premise meets an assumption, which goes or stays.
+#[tactic(auto, using(crate::proofs::Steps::premised_step, crate::proofs::Steps::unpremised_step, crate::proofs::Steps::below_step, crate::proofs::Steps::readied_base, crate::proofs::Steps::premised_hyps, crate::proofs::Refined::found_base))]
 fn by_premise(
     alloc: Global,
     how: How,
@@ -97,6 +98,7 @@ fn by_premise(
 }
 
 /// What the assumptions give without a rule.
+#[tactic(auto, using(crate::proofs::Steps::facts_step, crate::proofs::Steps::below_step))]
 fn by_fact(
     alloc: Global,
     how: How,
@@ -115,6 +117,7 @@ fn by_fact(
 }
 
 /// What a rule gives at the assumptions from that one on, and where it goes on.
+#[tactic(auto, using(crate::proofs::Steps::rule_intro, crate::proofs::Steps::rule_elim, crate::proofs::Steps::rule_dest, crate::proofs::Steps::rule_forward, crate::proofs::Steps::rule_facts))]
 pub(crate) fn by_rule(
     alloc: Global,
     how: How,
@@ -143,6 +146,7 @@ pub(crate) fn by_rule(
 }
 
 /// What the rules from that one on give first, and where they go on: the rule, and how many assumptions it has met.
+#[tactic(auto, using(crate::proofs::Searching::found_done, crate::proofs::Searching::found_again, crate::proofs::Searching::found_nothing, crate::proofs::Steps::found_among))]
 pub(crate) fn next_found(
     alloc: Global,
     how: How,
