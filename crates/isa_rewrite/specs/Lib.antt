@@ -1,0 +1,10 @@
+pub mod Ticking
+pub mod Simpsets
+pub mod Unknowns
+pub mod Opening
+pub mod Weight
+pub mod Simplification
+pub mod Laws
+pub mod Traces
+pub mod Turns
+pub mod Rows
