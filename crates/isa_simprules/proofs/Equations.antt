@@ -1,7 +1,9 @@
 -- The rules of a fact are equations under its hypotheses.
-use Rattle.std.specs.Prelude.{option_map, option_to_list, not, is_some, ◌||◌}
+use Rattle.std.specs.Prelude.{option_map, option_to_list, not, is_some, ◌||◌, Result, Ok, Err, IfOk}
+use Rattle.std.specs.declared.alloc.AllocError.{AllocError}
 use Rattle.std.proofs.Common.{◌≡◌, ℕ, zero, suc, List, [], ◌∷◌, ◌++◌, Bool, true, false, ◌&&◌, cond, Option, Some, None, refl, sym, ap, ◌∙◌, subst}
-use Rattle.isa_terms.specs.Terms.{Tm}
+use Rattle.isa_terms.specs.Terms.{Tm, Unknown}
+use Rattle.isa_terms.specs.Unknowns.{unknowns_of}
 use Rattle.isa_terms.specs.Equal.{tm_eq}
 use Rattle.isa_terms.specs.Sets.{has, missing, joined}
 use Rattle.isa_terms.specs.Instance.{Instance, instance_of, in_tms}
@@ -17,7 +19,8 @@ use Rattle.isa_subgoal.proofs.Deriving.{tm_eq_same}
 use Rattle.isa_subgoal.specs.Rules.{cut}
 use Rattle.isa_unify.specs.Matching.{match_of}
 use Rattle.isa_simprules.specs.Roles.{apart, normal, by_match, by_fact, by_facts}
-use Rattle.isa_simprules.specs.Opening.{quantifiers, opened_once, opened_often, opened}
+use Rattle.isa_simprules.specs.Numbers.{least_number}
+use Rattle.isa_simprules.specs.Opening.{quantifiers, variable_of, opened_once, opened_often, opened}
 use Rattle.isa_simprules.specs.RulesOf.{each, parts_or_itself, branches, is_equation, by_first, if_equation, turned, equation_of, depth, rules_of, AreIn, AreEquationsUnder, RulesAreEquations}
 
 -- each stands under hypotheses among those
@@ -73,19 +76,19 @@ fact_under fact th x hs e h = go fact.hyps refl e
 
 facts_under : (facts : List Theorem) (th : Theorem) (hs : List Tm) → AreIn th.hyps hs → AllUnder hs (by_facts facts th)
 facts_under [] th hs h = tt
-facts_under (fact ∷ facts) th hs h = go (by_fact fact th) refl
+facts_under (fact ∷ facts) th hs h = go (by_fact fact th) refl (facts_under facts th hs h)
   where
-    go : (o : Option Theorem) → by_fact fact th ≡ o → AllUnder hs (option_to_list o ++ by_facts facts th)
-    go None e = facts_under facts th hs h
-    go (Some x) e = (fact_under fact th x hs e h, facts_under facts th hs h)
+    go : (o : Option Theorem) → by_fact fact th ≡ o → AllUnder hs (by_facts facts th) → AllUnder hs (option_to_list o ++ by_facts facts th)
+    go None e d = d
+    go (Some x) e d = (fact_under fact th x hs e h, d)
 
 first_under : (facts : List Theorem) (th x : Theorem) (hs : List Tm) → by_first facts th ≡ Some x → AreIn th.hyps hs → AreIn x.hyps hs
 first_under [] th x hs e h = cc
-first_under (fact ∷ facts) th x hs e h = go (by_fact fact th) refl e
+first_under (fact ∷ facts) th x hs e h = go (by_fact fact th) refl (λ d. first_under facts th x hs d h) e
   where
-    go : (o : Option Theorem) → by_fact fact th ≡ o → elim o [ None ↦ by_first facts th | Some y ↦ Some y ] ≡ Some x → AreIn x.hyps hs
-    go None d e = first_under facts th x hs e h
-    go (Some y) d e = fact_under fact th x hs (d ∙ e) h
+    go : (o : Option Theorem) → by_fact fact th ≡ o → (by_first facts th ≡ Some x → AreIn x.hyps hs) → elim o [ None ↦ by_first facts th | Some y ↦ Some y ] ≡ Some x → AreIn x.hyps hs
+    go None d r e = r e
+    go (Some y) d r e = fact_under fact th x hs (d ∙ e) h
 
 -- what next gives under the hypotheses, each gives
 record GivesUnder (hs : List Tm) (next : Theorem → List Theorem) : Type 0 where
@@ -98,30 +101,31 @@ each_under hs next g (th ∷ ths) h = under_append hs (next th) (each next ths) 
 branches_under : (n : ℕ) (facts : List Theorem) (hs : List Tm) (th : Theorem) → AreIn th.hyps hs → AllUnder hs (branches n facts th)
 unfolding branches
 branches_under zero facts hs th h = (h, tt)
-branches_under (suc n) facts hs th h = go (by_facts facts th) (facts_under facts th hs h)
+branches_under (suc n) facts hs th h = go (by_facts facts th) (facts_under facts th hs h) (record { gives = λ y d. branches_under n facts hs y d })
   where
-    go : (xs : List Theorem) → AllUnder hs xs → AllUnder hs (parts_or_itself (branches n facts) th xs)
-    go [] k = (h, tt)
-    go (x ∷ xs) k = each_under hs (branches n facts) (record { gives = λ y d. branches_under n facts hs y d }) (x ∷ xs) k
+    go : (xs : List Theorem) → AllUnder hs xs → GivesUnder hs (branches n facts) → AllUnder hs (parts_or_itself (branches n facts) th xs)
+    go [] k g = (h, tt)
+    go (x ∷ xs) k g = each_under hs (branches n facts) g (x ∷ xs) k
+
+eliminated_hyps : (t : Tm) (th x : Theorem) → forall_eliminated t th ≡ Some x → x.hyps ≡ th.hyps
+eliminated_hyps t th x e =
+    let p = bind_some (quantifier_parts th.prop) _ e in
+    let c = cond_some (has_type t p.0.0) _ p.2 in
+    let r : record { hyps = th.hyps; prop = at p.0.1 t; base = th.base } ≡ x = cc (c.1) in
+    ap (λ (y : Theorem). y.hyps) (sym r)
 
 opened_once_hyps : (th x : Theorem) → opened_once th ≡ Some x → x.hyps ≡ th.hyps
 opened_once_hyps th x e =
     let q = bind_some (quantifier_parts th.prop) _ e in
-    let p = bind_some (quantifier_parts th.prop) _ q.2 in
-    let c = cond_some (has_type _ p.0.0) _ p.2 in
-    let r : record { hyps = th.hyps; prop = at p.0.1 _; base = th.base } ≡ x = cc (c.1) in
-    ap (λ (y : Theorem). y.hyps) (sym r)
+    eliminated_hyps (Unknown (variable_of q.0.1) (least_number (unknowns_of (th.prop ∷ th.hyps)) (variable_of q.0.1)) q.0.0) th x q.2
 
 opened_often_hyps : (n : ℕ) (th : Theorem) → (opened_often n th).hyps ≡ th.hyps
 opened_often_hyps zero th = refl
-opened_often_hyps (suc n) th = go (opened_once th) refl
+opened_often_hyps (suc n) th = go (opened_once th) refl (λ x. opened_often_hyps n x)
   where
-    go : (o : Option Theorem) → opened_once th ≡ o → (elim o [ None ↦ th | Some x ↦ opened_often n x ]).hyps ≡ th.hyps
-    go None e = refl
-    go (Some x) e = opened_often_hyps n x ∙ opened_once_hyps th x e
-
-itself_in : (ts us : List Tm) → AreIn ts us → AreIn ts us
-itself_in ts us h = h
+    go : (o : Option Theorem) → opened_once th ≡ o → ((x : Theorem) → (opened_often n x).hyps ≡ x.hyps) → (elim o as (λ o. Theorem) [ None ↦ th | Some x ↦ opened_often n x ]).hyps ≡ th.hyps
+    go None e r = refl
+    go (Some x) e r = r x ∙ opened_once_hyps th x e
 
 turned_under : (facts : List Theorem) (th x : Theorem) (hs : List Tm) → turned facts th ≡ Some x → AreIn th.hyps hs → AreIn x.hyps hs
 turned_under facts th x hs e h = go (is_equation th) e
@@ -162,3 +166,7 @@ unfolding rules_of
 rules_are_equations logic fact =
     let h : AreIn (opened (normal fact)).hyps fact.hyps = subst (λ us. AreIn us fact.hyps) (sym (opened_often_hyps (quantifiers (normal fact).prop) (normal fact))) (all_in fact.hyps) in
     each_equation logic.meta fact.hyps (branches depth logic.atomize (opened (normal fact))) (branches_under depth logic.atomize fact.hyps (opened (normal fact)) h)
+
+pub all_equations : (logic : Logic) (fact : Theorem) (answer : Result (List Theorem) AllocError) → IfOk answer (λ ths. ths ≡ rules_of logic fact) → IfOk answer (λ ths. AreEquationsUnder fact.hyps ths)
+all_equations logic fact (Ok ths) e = subst (AreEquationsUnder fact.hyps) (sym e) (rules_are_equations logic fact)
+all_equations logic fact (Err memory) e = tt

@@ -7,24 +7,22 @@ use Rattle.isa_terms.specs.Terms.{Tm, Const, Free, Unknown, Bound, Abs, App}
 use Rattle.isa_terms.specs.Equal.{name_eq}
 use Rattle.isa_simprules.specs.Numbers.{is_numbered, is_taken, is_type_numbered, is_type_taken, first_free, least_number, least_type_number, IsLeastFree, NumbersAreLeast}
 
-one : Bool → ℕ
+abbrev one : Bool → ℕ
 one true = 1
 one false = 0
 
 -- how many of m numbers from i on are taken
-count : (ℕ → Bool) → ℕ → ℕ → ℕ
+abbrev count : (ℕ → Bool) → ℕ → ℕ → ℕ
 count taken zero i = 0
 count taken (suc m) i = one (taken i) + count taken m (i + 1)
 
 one_or : (a b : Bool) → one (a || b) ≤ one a + one b
-unfolding one
 one_or true true = omega arith
 one_or true false = omega arith
 one_or false true = omega arith
 one_or false false = omega arith
 
 count_or : (p q : ℕ → Bool) (m i : ℕ) → count (λ j. p j || q j) m i ≤ count p m i + count q m i
-unfolding count
 count_or p q zero i = omega arith
 count_or p q (suc m) i = let a = one_or (p i) (q i) in let b = count_or p q m (i + 1) in omega (arith, a, b)
 
@@ -33,22 +31,20 @@ record OnlyAt (p : ℕ → Bool) (j : ℕ) : Type 0 where
   only : (i : ℕ) → p i ≡ true → i ≡ j
 
 count_past : (p : ℕ → Bool) (j m i : ℕ) → OnlyAt p j → j < i → count p m i ≡ 0
-unfolding count one
 count_past p j zero i h e = refl
-count_past p j (suc m) i h e = go (p i) refl
+count_past p j (suc m) i h e = go (p i) refl (count_past p j m (i + 1) h (omega (arith, e)))
   where
-    go : (b : Bool) → p i ≡ b → one b + count p m (i + 1) ≡ 0
-    go true d = let k = h.only i d in absurd (omega (arith, k, e))
-    go false d = let k = count_past p j m (i + 1) h (omega (arith, e)) in omega (arith, k)
+    go : (b : Bool) → p i ≡ b → count p m (i + 1) ≡ 0 → one b + count p m (i + 1) ≡ 0
+    go true d k = let n = h.only i d in absurd (omega (arith, n, e))
+    go false d k = omega (arith, k)
 
 count_one : (p : ℕ → Bool) (j m i : ℕ) → OnlyAt p j → count p m i ≤ 1
-unfolding count one
 count_one p j zero i h = omega arith
-count_one p j (suc m) i h = go (p i) refl
+count_one p j (suc m) i h = go (p i) refl (count_one p j m (i + 1) h)
   where
-    go : (b : Bool) → p i ≡ b → one b + count p m (i + 1) ≤ 1
-    go true d = let k = h.only i d in let n = count_past p j m (i + 1) h (omega (arith, k)) in omega (arith, n)
-    go false d = let k = count_one p j m (i + 1) h in omega (arith, k)
+    go : (b : Bool) → p i ≡ b → count p m (i + 1) ≤ 1 → one b + count p m (i + 1) ≤ 1
+    go true d r = let k = h.only i d in let n = count_past p j m (i + 1) h (omega (arith, k)) in omega (arith, n)
+    go false d r = omega (arith, r)
 
 and_true : (a b : Bool) → (a && b) ≡ true → b ≡ true
 and_true true b e = e
@@ -58,12 +54,11 @@ eq_of : (i j : ℕ) → nat_eq i j ≡ true → i ≡ j
 eq_of i j e = grind (arith, nat_tests, e)
 
 -- the number of an unknown
-number : Tm → ℕ
+abbrev number : Tm → ℕ
 number (Unknown y j T) = j
 number t = 0
 
 only_numbered : (x : List ℕ) (u : Tm) → OnlyAt (λ i. is_numbered x i u) (number u)
-unfolding number
 only_numbered x (Unknown y j T) = record { only = λ i e. eq_of i j (and_true (name_eq x y) (nat_eq i j) e) }
 only_numbered x (Const c T) = record { only = λ i e. cc }
 only_numbered x (Free a T) = record { only = λ i e. cc }
@@ -72,7 +67,6 @@ only_numbered x (Abs y T b) = record { only = λ i e. cc }
 only_numbered x (App f a) = record { only = λ i e. cc }
 
 count_none : (m i : ℕ) → count (λ j. false) m i ≡ 0
-unfolding count one
 count_none zero i = refl
 count_none (suc m) i = let k = count_none m (i + 1) in omega (arith, k)
 
@@ -84,12 +78,11 @@ count_taken (u ∷ us) x m i =
     let c = count_taken us x m i in
     omega (arith, a, b, c)
 
-type_number : Ty → ℕ
+abbrev type_number : Ty → ℕ
 type_number (TyUnknown y j) = j
 type_number T = 0
 
 only_type_numbered : (x : List ℕ) (U : Ty) → OnlyAt (λ i. is_type_numbered x i U) (type_number U)
-unfolding type_number
 only_type_numbered x (TyUnknown y j) = record { only = λ i e. eq_of i j (and_true (name_eq x y) (nat_eq i j) e) }
 only_type_numbered x (TyCon c Ts) = record { only = λ i e. cc }
 only_type_numbered x (TyFixed a) = record { only = λ i e. cc }
@@ -109,19 +102,12 @@ record Found (taken : ℕ → Bool) (n i : ℕ) : Type 0 where
   free : taken (first_free taken n i) ≡ true → count taken (suc n) i ≡ suc n
 
 found : (taken : ℕ → Bool) (n i : ℕ) → Found taken n i
-unfolding count one
 found taken zero i = record { from = omega arith; least = λ j a b. absurd (omega (arith, a, b)); free = λ e. let d : one (taken i) ≡ 1 = ap one e in omega (arith, d) }
 found taken (suc n) i = go (taken i) refl (found taken n (i + 1))
   where
-    next : ℕ
-    next = first_free taken n (i + 1)
-
-    lower : (j : ℕ) → taken i ≡ true → Found taken n (i + 1) → i ≤ j → j < first_free taken n (i + 1) → taken j ≡ true
-    lower j e f a b = pick (nat_eq i j) refl
-      where
-        pick : (b : Bool) → nat_eq i j ≡ b → taken j ≡ true
-        pick true d = ap taken (sym (eq_of i j d)) ∙ e
-        pick false d = let ne : i < j = grind (arith, nat_tests, d, a) in f.least j (omega (arith, ne)) b
+    pick : (j : ℕ) → taken i ≡ true → Found taken n (i + 1) → i ≤ j → j < first_free taken n (i + 1) → (b : Bool) → nat_eq i j ≡ b → taken j ≡ true
+    pick j e f a b true d = ap taken (sym (eq_of i j d)) ∙ e
+    pick j e f a b false d = let ne : i < j = grind (arith, nat_tests, d, a) in f.least j (omega (arith, ne)) b
 
     go : (b : Bool) → taken i ≡ b → Found taken n (i + 1) → Found taken (suc n) i
     go true e f =
@@ -129,7 +115,7 @@ found taken (suc n) i = go (taken i) refl (found taken n (i + 1))
         let fr = f.from in
         record {
           from = omega (arith, q, fr);
-          least = λ j a b. lower j e f a (omega (arith, q, b));
+          least = λ j a b. pick j e f a (omega (arith, q, b)) (nat_eq i j) refl;
           free = λ d. let k = f.free (sym (ap taken q) ∙ d) in let o : one (taken i) ≡ 1 = ap one e in omega (arith, k, o);
         }
     go false e f =

@@ -5,3 +5,4 @@ pub mod RulesOf
 pub mod Renamings
 pub mod Rules
 pub mod Congruences
+pub mod Worked

@@ -1,6 +1,6 @@
 -- Theorems whose outer quantifiers are opened into unknowns.
 -- Source: `Drule.forall_elim_vars` of Isabelle; that the least number is taken is this project's.
-use Rattle.std.specs.Prelude.{ℕ, zero, suc, ◌+◌, List, [], ◌∷◌, Option, Some, None, is_some, codes, if◌then◌else◌}
+use Rattle.std.specs.Prelude.{◌≡◌, ℕ, zero, suc, ◌+◌, List, [], ◌∷◌, Option, Some, None, is_some, codes, if◌then◌else◌}
 use Rattle.isa_terms.specs.Terms.{Tm, Const, Free, Unknown, Bound, Abs, App}
 use Rattle.isa_terms.specs.Unknowns.{unknowns_of}
 use Rattle.isa_kernel.specs.Forms.{◌>>=◌, const_type, quantifier_parts}
@@ -34,3 +34,7 @@ opened_often (suc n) th = elim (opened_once th) [ None ↦ th | Some x ↦ opene
 -- the theorem without `!!` in front: each time there is one `!!` less in it
 abbrev pub opened : Theorem → Theorem
 opened th = opened_often (quantifiers th.prop) th
+
+-- no `!!` stands in front of what is opened
+abbrev pub OpenedHasNoQuantifier : Type 0
+OpenedHasNoQuantifier = (th : Theorem) → quantifier_parts (opened th).prop ≡ None

@@ -92,6 +92,17 @@ fn copied_parameters(alloc: Global, parameters: &[Parameter]) -> Result<Vec<Para
     Ok(all)
 }
 
+/// Equal premises, which share their terms.
+fn copied_premises(alloc: Global, premises: &[CongPremise]) -> Result<Vec<CongPremise>, AllocError>
+    ensures { IfOk result (λ r. r.items ≡ premises.now) }
+{
+    let mut all = Vec::new(alloc);
+    for premise in premises {
+        all.push(premise.copy(alloc)?)?;
+    }
+    Ok(all)
+}
+
 /// A congruence rule `A1 ==> .. ==> An ==> c x1 .. xk == c y1 .. yk` with the parts of its premises, and its theorem.
 #[derive(Drop)]
 pub struct Cong {
@@ -153,12 +164,8 @@ impl Cong {
     pub fn copy(&self, alloc: Global) -> Result<Cong, AllocError>
         ensures { IfOk result (λ c. c ≡ self.now) }
     {
-        let mut premises = Vec::new(alloc);
-        for premise in &self.premises {
-            premises.push(premise.copy(alloc)?)?;
-        }
         Ok(Cong {
-            premises,
+            premises: copied_premises(alloc, self.premises.as_slice())?,
             left: self.left.copy()?,
             right: self.right.copy()?,
             thm: self.thm.copy(alloc)?,
@@ -214,22 +221,32 @@ fn premise_of(alloc: Global, t: &Term) -> Result<Option<CongPremise>, AllocError
     }))
 }
 
-/// The parts of the premises, behind what is done, where each is such a one.
-fn premises_in(
-    alloc: Global,
-    premises: &[Term],
-    mut done: Vec<CongPremise>,
-) -> Result<Option<Vec<CongPremise>>, AllocError>
-    ensures { IfOk result (λ o. option_map {U = List Premise} (λ v. v.items) o ≡ option_map (λ ps. done.items ++ ps) (premises_in premises.now)) }
+/// The premises with that one in front.
+#[tactic(auto, using(crate::proofs::Premises::first_inserted))]
+fn with_first(
+    premise: CongPremise,
+    mut others: Vec<CongPremise>,
+) -> Result<Vec<CongPremise>, AllocError>
+    ensures { IfOk result (λ r. r.items ≡ premise ∷ others.items) }
+{
+    others.insert(0, premise)?;
+    Ok(others)
+}
+
+/// The parts of the premises, where each is such a one.
+fn premises_in(alloc: Global, premises: &[Term]) -> Result<Option<Vec<CongPremise>>, AllocError>
+    ensures { IfOk result (λ o. option_map {U = List Premise} (λ v. v.items) o ≡ premises_in premises.now) }
 {
     let Some((first, rest)) = premises.split_first() else {
-        return Ok(Some(done));
+        return Ok(Some(Vec::new(alloc)));
     };
     let Some(premise) = premise_of(alloc, first)? else {
         return Ok(None);
     };
-    done.push(premise)?;
-    premises_in(alloc, rest, done)
+    let Some(others) = premises_in(alloc, rest)? else {
+        return Ok(None);
+    };
+    Ok(Some(with_first(premise, others)?))
 }
 
 /// Whether the term is an unknown.
@@ -375,6 +392,7 @@ fn is_congruence(
 }
 
 /// The theorem as a congruence rule, where it is one.
+#[tactic(auto, using(crate::proofs::Granting::cong_made))]
 pub fn cong_of(alloc: Global, th: &Thm) -> Result<Option<Cong>, AllocError>
     ensures { IfOk result (λ o. o ≡ cong_of th.now) }
 {
@@ -382,16 +400,20 @@ pub fn cong_of(alloc: Global, th: &Thm) -> Result<Option<Cong>, AllocError>
     let Some((_, left, right)) = split_eq(&form.conclusion) else {
         return Ok(None);
     };
-    let Some(premises) = premises_in(alloc, form.premises.as_slice(), Vec::new(alloc))? else {
+    let Some(premises) = premises_in(alloc, form.premises.as_slice())? else {
         return Ok(None);
     };
     if !is_congruence(alloc, premises.as_slice(), left, right)? {
         return Ok(None);
     }
-    Ok(Some(Cong {
-        left: left.copy()?,
-        right: right.copy()?,
+    let left = left.copy()?;
+    let right = right.copy()?;
+    let thm = th.copy(alloc)?;
+    let cong = Cong {
         premises,
-        thm: th.copy(alloc)?,
-    }))
+        left,
+        right,
+        thm,
+    };
+    Ok(Some(cong))
 }

@@ -12,6 +12,8 @@ mod roles;
 mod rule;
 
 pub use congruence::{Cong, CongPremise, are_distinct_unknowns, cong_of, is_constant};
-pub use laws::{numbers_are_least, rules_are_equations};
+pub use laws::{
+    numbers_are_least, opened_has_no_quantifier, rules_are_computed, rules_are_equations,
+};
 pub use rewrite_rules::rules_of;
 pub use rule::{Rule, rule_of, rules_in};

@@ -28,10 +28,14 @@ fn is_taken(unknowns: &[Term], name: &Name, number: u32) -> bool
 }
 
 /// The first of so many numbers from that one on that is not taken, or the one behind them.
+#[tactic(auto, using(crate::proofs::Counted::free_here, crate::proofs::Counted::free_later))]
 fn first_free(unknowns: &[Term], name: &Name, count: usize, number: u32) -> Result<u32, AllocError>
     ensures { IfOk result (λ n. n ≡ first_free (is_taken unknowns.now name.now) count number) }
 {
-    if count == 0 || !is_taken(unknowns, name, number) {
+    if count == 0 {
+        return Ok(number);
+    }
+    if !is_taken(unknowns, name, number) {
         return Ok(number);
     }
     let next = number.checked_add(1).ok_or(AllocError)?;
@@ -68,6 +72,7 @@ fn is_type_taken(unknowns: &[Typ], name: &Name, number: u32) -> bool
 }
 
 /// The first of so many numbers from that one on that no type unknown of that name has, or the one behind them.
+#[tactic(auto, using(crate::proofs::Counted::free_here, crate::proofs::Counted::free_later))]
 fn first_free_type(
     unknowns: &[Typ],
     name: &Name,
@@ -76,7 +81,10 @@ fn first_free_type(
 ) -> Result<u32, AllocError>
     ensures { IfOk result (λ n. n ≡ first_free (is_type_taken unknowns.now name.now) count number) }
 {
-    if count == 0 || !is_type_taken(unknowns, name, number) {
+    if count == 0 {
+        return Ok(number);
+    }
+    if !is_type_taken(unknowns, name, number) {
         return Ok(number);
     }
     let next = number.checked_add(1).ok_or(AllocError)?;

@@ -9,11 +9,18 @@ use isa_terms::{Name, Term, TermNode, unknowns_of};
 use std::alloc::{AllocError, Global};
 
 /// How often `!!` stands in the term.
+#[tactic(auto, using(crate::proofs::Counted::all_there, crate::proofs::Counted::no_all))]
 fn quantifiers(t: &Term) -> Result<usize, AllocError>
     ensures { IfOk result (λ n. n ≡ quantifiers t.now) }
 {
     match t.view() {
-        TermNode::Const(name, _) => Ok(if name.is_text("Pure.all") { 1 } else { 0 }),
+        TermNode::Const(name, _) => {
+            if name.is_text("Pure.all") {
+                Ok(1)
+            } else {
+                Ok(0)
+            }
+        }
         TermNode::Free(_, _) | TermNode::Unknown(_, _, _) | TermNode::Bound(_) => Ok(0),
         TermNode::Abs(_, _, body) => quantifiers(body),
         TermNode::App(fun, arg) => {
@@ -34,6 +41,7 @@ fn variable_of(alloc: Global, predicate: &Term) -> Result<Name, AllocError>
 }
 
 /// `B` of `!!x. B` at the unknown `?x` with the least number that no unknown of that name in the theorem has.
+#[tactic(auto, using(crate::proofs::Granting::once_none, crate::proofs::Granting::once_granted))]
 fn opened_once(alloc: Global, th: &Thm) -> Result<Option<Thm>, AllocError>
     ensures { IfOk result (λ o. o ≡ opened_once th.now) }
 {
@@ -44,10 +52,12 @@ fn opened_once(alloc: Global, th: &Thm) -> Result<Option<Thm>, AllocError>
     let known = unknowns_of(alloc, stated(alloc, th)?.as_slice())?;
     let number = least_number(known.as_slice(), &name)?;
     let unknown = Term::new(alloc, TermNode::Unknown(name, number, typ.copy()?))?;
-    if_granted(forall_elim(alloc, &unknown, th))
+    let answer = forall_elim(alloc, &unknown, th);
+    if_granted(answer)
 }
 
 /// The same again and again, as long as `!!` stands in front, but at most so many times.
+#[tactic(auto, using(crate::proofs::Counted::opened_none, crate::proofs::Counted::opened_some))]
 fn opened_often(alloc: Global, count: usize, th: Thm) -> Result<Thm, AllocError>
     ensures { IfOk result (λ r. r ≡ opened_often count th) }
 {

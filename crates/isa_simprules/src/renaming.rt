@@ -41,30 +41,37 @@ fn renaming(
 ) -> Result<Option<Vec<(Term, Term)>>, AllocError>
     ensures { IfOk result (λ r. option_map {U = List (Tm × Tm)} (λ v. v.items) r ≡ renaming pairs.items from.now to.now) }
 {
-    match (from.view(), to.view()) {
-        (TermNode::Unknown(_, _, typ), TermNode::Unknown(_, _, other)) => {
-            if same_typ(typ, other) {
-                paired(pairs, from, to)
-            } else {
-                Ok(None)
+    match from.view() {
+        TermNode::Unknown(_, _, typ) => match to.view() {
+            TermNode::Unknown(_, _, other) => {
+                if same_typ(typ, other) {
+                    paired(pairs, from, to)
+                } else {
+                    Ok(None)
+                }
             }
-        }
-        (TermNode::Abs(_, typ, body), TermNode::Abs(_, other, inner)) => {
-            if same_typ(typ, other) {
-                renaming(pairs, body, inner)
-            } else {
-                Ok(None)
+            _ => Ok(None),
+        },
+        TermNode::Abs(_, typ, body) => match to.view() {
+            TermNode::Abs(_, other, inner) => {
+                if same_typ(typ, other) {
+                    renaming(pairs, body, inner)
+                } else {
+                    Ok(None)
+                }
             }
-        }
-        (TermNode::App(fun, arg), TermNode::App(head, last)) => {
-            let Some(pairs) = renaming(pairs, fun, head)? else {
-                return Ok(None);
-            };
-            renaming(pairs, arg, last)
-        }
-        (TermNode::Unknown(_, _, _), _) | (TermNode::Abs(_, _, _), _) | (TermNode::App(_, _), _) =>
-            { Ok(None) }
-        (TermNode::Const(_, _), _) | (TermNode::Free(_, _), _) | (TermNode::Bound(_), _) => {
+            _ => Ok(None),
+        },
+        TermNode::App(fun, arg) => match to.view() {
+            TermNode::App(head, last) => {
+                let Some(pairs) = renaming(pairs, fun, head)? else {
+                    return Ok(None);
+                };
+                renaming(pairs, arg, last)
+            }
+            _ => Ok(None),
+        },
+        TermNode::Const(_, _) | TermNode::Free(_, _) | TermNode::Bound(_) => {
             if same_term(from, to) {
                 Ok(Some(pairs))
             } else {

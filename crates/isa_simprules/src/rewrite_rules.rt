@@ -13,7 +13,7 @@ use std::alloc::{AllocError, Global};
 const DEPTH: u32 = 100;
 
 /// The branches of the theorem, which may still be taken apart so many times, behind what is done.
-#[cycle(branches)]
+#[tactic(auto, using(crate::proofs::Counted::branches_zero, crate::proofs::Counted::branches_none, crate::proofs::Counted::branches_some))]
 fn branches(
     alloc: Global,
     depth: u32,
@@ -32,27 +32,12 @@ fn branches(
         done.push(th.copy(alloc)?)?;
         return Ok(done);
     }
-    all_branches(alloc, depth - 1, facts, parts.as_slice(), done)
-}
-
-/// The branches of each of the theorems, behind what is done.
-#[cycle(branches)]
-fn all_branches(
-    alloc: Global,
-    depth: u32,
-    facts: &[Thm],
-    theorems: &[Thm],
-    done: Thms,
-) -> Result<Thms, AllocError>
-    ensures { IfOk result (λ r. r ≡ done ++ each (branches depth facts.now) theorems.now) }
-{
-    match theorems.split_first() {
-        None => Ok(done),
-        Some((first, rest)) => {
-            let done = branches(alloc, depth, facts, first, done)?;
-            all_branches(alloc, depth, facts, rest, done)
-        }
+    let items = parts.as_slice();
+    let mut all = done;
+    for part in items {
+        all = branches(alloc, depth - 1, facts, part, all)?;
     }
+    Ok(all)
 }
 
 /// Whether it is `As ==> l == r`.
@@ -74,6 +59,7 @@ fn turned(alloc: Global, facts: &[Thm], th: &Thm) -> Result<Option<Thm>, AllocEr
 }
 
 /// The equation that the theorem is turned into, in normal form, behind what is done.
+#[tactic(auto, using(crate::proofs::Counted::no_equation, crate::proofs::Counted::not_equation, crate::proofs::Counted::one_equation))]
 fn add_equation(alloc: Global, facts: &[Thm], th: &Thm, mut done: Thms) -> Result<Thms, AllocError>
     ensures { IfOk result (λ r. r ≡ done ++ equation_of facts.now th.now) }
 {
@@ -81,9 +67,10 @@ fn add_equation(alloc: Global, facts: &[Thm], th: &Thm, mut done: Thms) -> Resul
         return Ok(done);
     };
     let equation = normal(alloc, &made)?;
-    if is_equation(&equation) {
-        done.push(equation)?;
+    if !is_equation(&equation) {
+        return Ok(done);
     }
+    done.push(equation)?;
     Ok(done)
 }
 
@@ -105,15 +92,10 @@ fn add_equations(
     }
 }
 
-/// The rewrite rules of a fact, as theorems `conditions ==> left == right`.
-///
-/// The outer `!!`s are opened into unknowns. While a fact of the role `atomize` has a first premise that matches the
-/// conclusion, what all such facts make of it stands in its place, their further premises becoming conditions behind those
-/// that are there; at depth 100 a branch is taken as it stands. Then a conclusion `l == r` stays, and the first fact of the
-/// role `meta` whose premise matches turns another one into such. The hypotheses of each rule are among those of the fact.
-pub fn rules_of(alloc: Global, logic: &Logic, fact: &Thm) -> Result<Thms, AllocError>
-    ensures rules { IfOk result (λ ths. ths ≡ rules_of logic.now fact.now) }
-    ensures equations { IfOk result (λ ths. AreEquationsUnder fact.now.hyps ths) }
+/// The rules of a fact.
+#[tactic(auto, unfolding(crate::specs::RulesOf::rules_of))]
+fn prepared(alloc: Global, logic: &Logic, fact: &Thm) -> Result<Thms, AllocError>
+    ensures { IfOk result (λ ths. ths ≡ rules_of logic.now fact.now) }
 {
     let start = opened(alloc, normal(alloc, fact)?)?;
     let parts = branches(
@@ -129,4 +111,18 @@ pub fn rules_of(alloc: Global, logic: &Logic, fact: &Thm) -> Result<Thms, AllocE
         parts.as_slice(),
         Thms::new(alloc),
     )
+}
+
+/// The rewrite rules of a fact, as theorems `conditions ==> left == right`.
+///
+/// The outer `!!`s are opened into unknowns. While a fact of the role `atomize` has a first premise that matches the
+/// conclusion, what all such facts make of it stands in its place, their further premises becoming conditions behind those
+/// that are there; at depth 100 a branch is taken as it stands. Then a conclusion `l == r` stays, and the first fact of the
+/// role `meta` whose premise matches turns another one into such. The hypotheses of each rule are among those of the fact.
+#[tactic(auto, using(crate::proofs::Equations::all_equations))]
+pub fn rules_of(alloc: Global, logic: &Logic, fact: &Thm) -> Result<Thms, AllocError>
+    ensures rules { IfOk result (λ ths. ths ≡ rules_of logic.now fact.now) }
+    ensures equations { IfOk result (λ ths. AreEquationsUnder fact.now.hyps ths) }
+{
+    prepared(alloc, logic, fact)
 }

@@ -24,6 +24,7 @@ pub(crate) fn if_granted(answer: Result<Thm, InferenceError>) -> Result<Option<T
 }
 
 /// The theorem in normal form.
+#[tactic(auto, using(crate::proofs::Normalised::normal_stays, crate::proofs::Normalised::normal_made))]
 pub(crate) fn normal(alloc: Global, th: &Thm) -> Result<Thm, AllocError>
     ensures { IfOk result (λ r. r ≡ normal th.now) }
 {
@@ -42,13 +43,15 @@ pub(crate) fn stated(alloc: Global, th: &Thm) -> Result<Terms, AllocError>
 {
     let mut all = Terms::new(alloc);
     all.push(th.prop().copy()?)?;
-    for hyp in th.hyps() {
+    let hyps = th.hyps().as_slice();
+    for hyp in hyps {
         all.push(hyp.copy()?)?;
     }
     Ok(all)
 }
 
 /// Of a theorem `As ==> B` and a fact `B1 ==> Bs ==> C` whose premise B1 matches B: `As ==> Bs ==> C` at that instance of Bs and C.
+#[tactic(auto, using(crate::proofs::Granting::no_premise, crate::proofs::Granting::no_match, crate::proofs::Granting::not_made, crate::proofs::Granting::made_cut))]
 fn by_match(alloc: Global, fact: &Thm, th: &Thm) -> Result<Option<Thm>, AllocError>
     ensures { IfOk result (λ o. o ≡ by_match fact.now th.now) }
 {
@@ -61,10 +64,12 @@ fn by_match(alloc: Global, fact: &Thm, th: &Thm) -> Result<Option<Thm>, AllocErr
     };
     let known = stated(alloc, th)?;
     let s = apart(alloc, known.as_slice(), fact.prop(), found)?;
-    let Some(made) = if_granted(instantiate_thm(alloc, &s, fact))? else {
+    let instance = instantiate_thm(alloc, &s, fact);
+    let Some(made) = if_granted(instance)? else {
         return Ok(None);
     };
-    if_granted(cut(alloc, &[], form.premises.as_slice(), &made, th))
+    let answer = cut(alloc, &[], form.premises.as_slice(), &made, th);
+    if_granted(answer)
 }
 
 /// What a fact without hypotheses makes of the theorem.

@@ -89,6 +89,7 @@ impl Rule {
 }
 
 /// The theorem as a rule, where its conclusion is an equation.
+#[tactic(auto, using(crate::proofs::Granting::rule_made))]
 pub fn rule_of(alloc: Global, th: &Thm) -> Result<Option<Rule>, AllocError>
     ensures { IfOk result (λ o. o ≡ rule_of th.now) }
 {
@@ -96,13 +97,18 @@ pub fn rule_of(alloc: Global, th: &Thm) -> Result<Option<Rule>, AllocError>
     let Some((_, left, right)) = split_eq(&form.conclusion) else {
         return Ok(None);
     };
-    Ok(Some(Rule {
-        left: left.copy()?,
-        right: right.copy()?,
-        permutes: is_renamed(alloc, left, right)?,
+    let permutes = is_renamed(alloc, left, right)?;
+    let left = left.copy()?;
+    let right = right.copy()?;
+    let thm = th.copy(alloc)?;
+    let rule = Rule {
         conditions: form.premises,
-        thm: th.copy(alloc)?,
-    }))
+        left,
+        right,
+        permutes,
+        thm,
+    };
+    Ok(Some(rule))
 }
 
 /// Those of the theorems that are rules, behind what is done.

@@ -6,7 +6,7 @@ use Rattle.isa_terms.specs.Terms.{Tm}
 use Rattle.isa_terms.specs.Equal.{tm_eq}
 use Rattle.isa_simprules.specs.Rules.{Rule}
 use Rattle.isa_simprules.specs.Congruences.{Cong}
-use Rattle.isa_simpset.specs.Simpsets.{is_stated_by, place_of_cong, without_cong, is_stated, ranked, rank_place, place_of, without_rule}
+use Rattle.isa_simpset.specs.Lists.{is_stated_by, place_of_cong, without_cong, is_stated, ranked, rank_place, place_of, without_rule}
 
 pub rank_within : (n : ℕ) (rs : List Rule) → rank_place n rs ≤ length rs
 rank_within n [] = omega arith
@@ -42,10 +42,10 @@ pub record StandsAt (p : Tm) (k n : ℕ) (rs : List Rule) : Type 0 where
 
 place_found : (p : Tm) (k n : ℕ) (rs : List Rule) → place_of p k rs ≡ Some n → StandsAt p k n rs
 place_found p k n [] e = cc
-place_found p k n (r ∷ rs) e = go (tm_eq r.thm.prop p) refl e
+place_found p k n (r ∷ rs) e = go (tm_eq r.thm.prop p) refl (λ d. place_found p (k + 1) n rs d) e
   where
-    go : (b : Bool) → tm_eq r.thm.prop p ≡ b → cond b (Some k) (place_of p (k + 1) rs) ≡ Some n → StandsAt p k n (r ∷ rs)
-    go true t d =
+    go : (b : Bool) → tm_eq r.thm.prop p ≡ b → (place_of p (k + 1) rs ≡ Some n → StandsAt p (k + 1) n rs) → cond b (Some k) (place_of p (k + 1) rs) ≡ Some n → StandsAt p k n (r ∷ rs)
+    go true t f d =
         let q : k ≡ n = cc d in
         record {
           place = 0;
@@ -54,8 +54,8 @@ place_found p k n (r ∷ rs) e = go (tm_eq r.thm.prop p) refl e
           left = sym (ap (λ b. cond b rs (r ∷ without_rule p rs)) t);
           there = ap (λ b. b || is_stated rs p) t;
         }
-    go false t d =
-        let h = place_found p (k + 1) n rs d in
+    go false t f d =
+        let h = f d in
         let i = h.is in
         let w = h.within in
         record {
@@ -84,12 +84,12 @@ pub record Untaken (p : Tm) (rs : List Rule) : Type 0 where
 
 pub none_at : (p : Tm) (k : ℕ) (rs : List Rule) → place_of p k rs ≡ None → Untaken p rs
 none_at p k [] e = record { left = refl; there = refl }
-none_at p k (r ∷ rs) e = go (tm_eq r.thm.prop p) refl e
+none_at p k (r ∷ rs) e = go (tm_eq r.thm.prop p) refl (λ d. none_at p (k + 1) rs d) e
   where
-    go : (b : Bool) → tm_eq r.thm.prop p ≡ b → cond b (Some k) (place_of p (k + 1) rs) ≡ None → Untaken p (r ∷ rs)
-    go true t d = cc
-    go false t d =
-        let h = none_at p (k + 1) rs d in
+    go : (b : Bool) → tm_eq r.thm.prop p ≡ b → (place_of p (k + 1) rs ≡ None → Untaken p rs) → cond b (Some k) (place_of p (k + 1) rs) ≡ None → Untaken p (r ∷ rs)
+    go true t f d = cc
+    go false t f d =
+        let h = f d in
         record { left = ap (λ xs. r ∷ xs) h.left ∙ sym (ap (λ b. cond b rs (r ∷ without_rule p rs)) t); there = h.there ∙ sym (ap (λ b. b || is_stated rs p) t) }
 
 -- the same of congruence rules
@@ -102,10 +102,10 @@ pub record CongAt (p : Tm) (k n : ℕ) (cs : List Cong) : Type 0 where
 
 cong_found : (p : Tm) (k n : ℕ) (cs : List Cong) → place_of_cong p k cs ≡ Some n → CongAt p k n cs
 cong_found p k n [] e = cc
-cong_found p k n (r ∷ cs) e = go (tm_eq r.thm.prop p) refl e
+cong_found p k n (r ∷ cs) e = go (tm_eq r.thm.prop p) refl (λ d. cong_found p (k + 1) n cs d) e
   where
-    go : (b : Bool) → tm_eq r.thm.prop p ≡ b → cond b (Some k) (place_of_cong p (k + 1) cs) ≡ Some n → CongAt p k n (r ∷ cs)
-    go true t d =
+    go : (b : Bool) → tm_eq r.thm.prop p ≡ b → (place_of_cong p (k + 1) cs ≡ Some n → CongAt p (k + 1) n cs) → cond b (Some k) (place_of_cong p (k + 1) cs) ≡ Some n → CongAt p k n (r ∷ cs)
+    go true t f d =
         let q : k ≡ n = cc d in
         record {
           place = 0;
@@ -114,8 +114,8 @@ cong_found p k n (r ∷ cs) e = go (tm_eq r.thm.prop p) refl e
           left = sym (ap (λ b. cond b cs (r ∷ without_cong p cs)) t);
           there = ap (λ b. b || is_stated_by cs p) t;
         }
-    go false t d =
-        let h = cong_found p (k + 1) n cs d in
+    go false t f d =
+        let h = f d in
         let i = h.is in
         let w = h.within in
         record {
@@ -144,12 +144,12 @@ pub record CongUntaken (p : Tm) (cs : List Cong) : Type 0 where
 
 pub no_cong_at : (p : Tm) (k : ℕ) (cs : List Cong) → place_of_cong p k cs ≡ None → CongUntaken p cs
 no_cong_at p k [] e = record { left = refl; there = refl }
-no_cong_at p k (r ∷ cs) e = go (tm_eq r.thm.prop p) refl e
+no_cong_at p k (r ∷ cs) e = go (tm_eq r.thm.prop p) refl (λ d. no_cong_at p (k + 1) cs d) e
   where
-    go : (b : Bool) → tm_eq r.thm.prop p ≡ b → cond b (Some k) (place_of_cong p (k + 1) cs) ≡ None → CongUntaken p (r ∷ cs)
-    go true t d = cc
-    go false t d =
-        let h = no_cong_at p (k + 1) cs d in
+    go : (b : Bool) → tm_eq r.thm.prop p ≡ b → (place_of_cong p (k + 1) cs ≡ None → CongUntaken p cs) → cond b (Some k) (place_of_cong p (k + 1) cs) ≡ None → CongUntaken p (r ∷ cs)
+    go true t f d = cc
+    go false t f d =
+        let h = f d in
         record { left = ap (λ xs. r ∷ xs) h.left ∙ sym (ap (λ b. cond b cs (r ∷ without_cong p cs)) t); there = h.there ∙ sym (ap (λ b. b || is_stated_by cs p) t) }
 
 pub taken_within : (p : Tm) (n : ℕ) (rs : List Rule) → place_of p 0 rs ≡ Some n → n < length rs
@@ -181,3 +181,6 @@ no_cong_left p cs e = (no_cong_at p 0 cs e).left
 
 pub no_cong_there : (p : Tm) (cs : List Cong) → place_of_cong p 0 cs ≡ None → false ≡ is_stated_by cs p
 no_cong_there p cs e = (no_cong_at p 0 cs e).there
+
+pub inserted_first : (c : Cong) (cs : List Cong) → insert cs 0 c ≡ c ∷ cs
+inserted_first c cs = refl

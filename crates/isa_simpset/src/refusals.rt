@@ -1,6 +1,6 @@
 //! Why a simpset refuses rules.
 ghost use Rattle.std.specs.Prelude.{◌≡◌, ◌++◌, ◌∷◌, [], IfOk, Some, None, option_map};
-ghost use Rattle.isa_simpset.specs.Simpsets.{first_extra, extra_on_right, extra, first_extra_of, are_patterns, rules_refusal, is_split_side, is_split, only_rule, split_of, split_refusal, proc_of, proc_refusal, first_name, name_of};
+ghost use Rattle.isa_simpset.specs.Refusals.{first_extra, extra_on_right, extra, first_extra_of, are_patterns, rules_refusal, is_split_side, is_split, only_rule, split_of, split_refusal, proc_of, proc_refusal, first_name, name_of};
 ghost use Rattle.isa_simprules.specs.Rules.{rules_in};
 ghost use Rattle.isa_simprules.specs.RulesOf.{rules_of};
 ghost use Rattle.isa_terms.specs.Sets.{missing};

@@ -1,62 +1,36 @@
 //! Simpsets.
 ghost use Rattle.std.specs.Prelude.{◌≡◌, [], IfOk, OnOk, OnErr, slice_get, option_map};
 ghost use Rattle.std.specs.Option.{option_copied};
-ghost use Rattle.isa_simpset.specs.Simpsets.{no_rules, with_logic, cleared, added, deleted, cong_added, cong_deleted, split_added, split_deleted, looper_added, proc_added, with_solver, is_fact_of, Answers};
+ghost use Rattle.isa_simpset.specs.Lists.{is_fact_of};
+ghost use Rattle.isa_simpset.specs.Simpsets.{no_rules, with_logic, cleared, added, deleted, cong_added, cong_deleted, split_added, split_deleted, looper_added, proc_added, with_solver, Answers};
 
+use crate::congs::Congs;
 use crate::fail::SimpFail;
-use crate::lists::{add_first, add_found, add_last, add_proc, is_stated_by, take_out_cong};
-use crate::procs::{Proc, ProcRule};
+use crate::procs::{Proc, ProcRule, ProcRules};
 use crate::refusals::{proc_of, proc_refusal, rules_for, rules_refusal, split_of, split_refusal};
-use crate::rules::{add_rules, copied_rules, has_some, take_out, take_out_all};
+use crate::rules::Rules;
 use isa_kernel::{Logic, Thm, Thms};
-use isa_simprules::{Cong, Rule, cong_of};
+use isa_simprules::cong_of;
 use isa_terms::same_term;
 use std::alloc::{AllocError, Global};
-use std::marker::Model;
 
-/// What the simplifier works by: the facts of an object logic by their roles, rewrite rules, congruence rules, split rules,
-/// facts of simplification procedures, and solvers and loopers besides. Each list stands in the order in which it is tried.
+/// What the simplifier works by. Each list stands in the order in which it is tried.
 #[derive(Drop)]
 pub struct Simpset {
+    /// The facts of the object logic, by their roles.
     logic: Logic,
-    rules: Vec<Rule>,
-    congs: Vec<Cong>,
-    splits: Vec<Rule>,
-    procs: Vec<ProcRule>,
+    /// Rewrite rules by rank: fewer conditions first, then the later declared.
+    rules: Rules,
+    /// Congruence rules, the latest first.
+    congs: Congs,
+    /// Split rules, the latest first.
+    splits: Rules,
+    /// Facts of simplification procedures, in declared order.
+    procs: ProcRules,
+    /// Added solvers, in declared order.
     solvers: Thms,
-    loopers: Vec<Rule>,
-}
-
-impl Model for Simpset {
-    ghost use Rattle.isa_simpset.specs.Simpsets.{SimpsetSeen, simpset_code};
-
-    ghost Value = { SimpsetSeen };
-
-    ghost coded = { simpset_code };
-
-    ghost view = { λ s. record { logic = s.logic; rules = s.rules.items; congs = s.congs.items; splits = s.splits.items; procs = s.procs.items; solvers = s.solvers; loopers = s.loopers.items } };
-}
-
-/// Equal congruence rules, which share their terms.
-fn copied_congs(alloc: Global, congs: &[Cong]) -> Result<Vec<Cong>, AllocError>
-    ensures { IfOk result (λ r. r.items ≡ congs.now) }
-{
-    let mut all = Vec::new(alloc);
-    for cong in congs {
-        all.push(cong.copy(alloc)?)?;
-    }
-    Ok(all)
-}
-
-/// Equal facts of simplification procedures, whose theorems are shared.
-fn copied_procs(alloc: Global, procs: &[ProcRule]) -> Result<Vec<ProcRule>, AllocError>
-    ensures { IfOk result (λ r. r.items ≡ procs.now) }
-{
-    let mut all = Vec::new(alloc);
-    for proc in procs {
-        all.push(proc.copy(alloc)?)?;
-    }
-    Ok(all)
+    /// Added loopers, in declared order.
+    loopers: Rules,
 }
 
 /// Whether one of the facts states the proposition of that one.
@@ -78,12 +52,12 @@ impl Simpset {
     {
         Ok(Simpset {
             logic: logic.copy(alloc)?,
-            rules: Vec::new(alloc),
-            congs: Vec::new(alloc),
-            splits: Vec::new(alloc),
-            procs: Vec::new(alloc),
+            rules: Rules::new(alloc),
+            congs: Congs::new(alloc),
+            splits: Rules::new(alloc),
+            procs: ProcRules::new(alloc),
             solvers: Thms::new(alloc),
-            loopers: Vec::new(alloc),
+            loopers: Rules::new(alloc),
         })
     }
 
@@ -93,12 +67,12 @@ impl Simpset {
     {
         Ok(Simpset {
             logic: self.logic.copy(alloc)?,
-            rules: copied_rules(alloc, self.rules.as_slice())?,
-            congs: copied_congs(alloc, self.congs.as_slice())?,
-            splits: copied_rules(alloc, self.splits.as_slice())?,
-            procs: copied_procs(alloc, self.procs.as_slice())?,
+            rules: self.rules.copy(alloc)?,
+            congs: self.congs.copy(alloc)?,
+            splits: self.splits.copy(alloc)?,
+            procs: self.procs.copy(alloc)?,
             solvers: self.solvers.copy(alloc)?,
-            loopers: copied_rules(alloc, self.loopers.as_slice())?,
+            loopers: self.loopers.copy(alloc)?,
         })
     }
 
@@ -114,71 +88,72 @@ impl Simpset {
         ensures ok { OnOk result (self.new ≡ with_logic logic.now self.old) }
         ensures err { OnErr result (self.new ≡ self.old) }
     {
-        self.logic = logic.copy(alloc)?;
+        let other = logic.copy(alloc)?;
+        self.logic = other;
         Ok(())
     }
 
     /// The rewrite rules, by rank: fewer conditions first, then the later declared.
-    pub fn rules(&self) -> &[Rule]
+    pub fn rules(&self) -> &Rules
         ensures { result.now ≡ self.now.rules }
     {
-        self.rules.as_slice()
+        &self.rules
     }
 
     /// The congruence rules, the latest first.
-    pub fn congs(&self) -> &[Cong]
+    pub fn congs(&self) -> &Congs
         ensures { result.now ≡ self.now.congs }
     {
-        self.congs.as_slice()
+        &self.congs
     }
 
     /// The split rules, the latest first.
-    pub fn splits(&self) -> &[Rule]
+    pub fn splits(&self) -> &Rules
         ensures { result.now ≡ self.now.splits }
     {
-        self.splits.as_slice()
+        &self.splits
     }
 
     /// The facts of simplification procedures, in declared order.
-    pub fn procs(&self) -> &[ProcRule]
+    pub fn procs(&self) -> &ProcRules
         ensures { result.now ≡ self.now.procs }
     {
-        self.procs.as_slice()
+        &self.procs
     }
 
     /// The added solvers, in declared order.
-    pub fn solvers(&self) -> &[Thm]
+    pub fn solvers(&self) -> &Thms
         ensures { result.now ≡ self.now.solvers }
     {
-        self.solvers.as_slice()
+        &self.solvers
     }
 
     /// The added loopers, in declared order.
-    pub fn loopers(&self) -> &[Rule]
+    pub fn loopers(&self) -> &Rules
         ensures { result.now ≡ self.now.loopers }
     {
-        self.loopers.as_slice()
+        &self.loopers
     }
 
     /// The theorem of the rewrite rule at that place, counted from 0; `None` exactly past the end.
     pub fn rule(&self, place: usize) -> Option<&Thm>
         ensures { option_copied result ≡ option_map (λ r. r.thm) (slice_get self.now.rules place) }
     {
-        Some(self.rules.get(place)?.thm())
+        self.rules.thm(place)
     }
 
     /// The theorem of the congruence rule at that place.
     pub fn cong(&self, place: usize) -> Option<&Thm>
         ensures { option_copied result ≡ option_map (λ c. c.thm) (slice_get self.now.congs place) }
     {
-        Some(self.congs.get(place)?.thm())
+        self.congs.thm(place)
     }
 
     /// The theorem of the split rule at that place.
     pub fn split_rule(&self, place: usize) -> Option<&Thm>
         ensures { option_copied result ≡ option_map (λ r. r.thm) (slice_get self.now.splits place) }
     {
-        Some(self.splits.get(place)?.thm())
+        self.splits.thm(place)
     }
 
     /// The fact of a simplification procedure at that place.
@@ -199,7 +174,7 @@ impl Simpset {
     pub fn looper(&self, place: usize) -> Option<&Thm>
         ensures { option_copied result ≡ option_map (λ r. r.thm) (slice_get self.now.loopers place) }
     {
-        Some(self.loopers.get(place)?.thm())
+        self.loopers.thm(place)
     }
 
     /// Takes out all rewrite rules, congruence rules and split rules, and leaves all else.
@@ -212,6 +187,7 @@ impl Simpset {
     }
 
     /// Adds the rewrite rules of a fact. Those that are there change nothing.
+    #[tactic(auto, using(crate::proofs::Answering::refused, crate::proofs::Answering::added_refused, crate::proofs::Answering::added_ok))]
     pub fn add(&mut self, alloc: Global, fact: &Thm) -> Result<(), SimpFail>
         ensures { Answers result self.old (added self.old fact.now) self.new }
     {
@@ -219,48 +195,52 @@ impl Simpset {
         if let Some(fail) = rules_refusal(alloc, rules.as_slice())? {
             return Err(fail);
         }
-        add_rules(alloc, &mut self.rules, rules.as_slice())?;
+        self.rules.add_all(alloc, rules.as_slice())?;
         Ok(())
     }
 
     /// Takes out the rewrite rules of a fact. `NotThere` comes exactly where none of them is there.
+    #[tactic(auto, using(crate::proofs::Answering::deleted_refused, crate::proofs::Answering::deleted_ok))]
     pub fn del(&mut self, alloc: Global, fact: &Thm) -> Result<(), SimpFail>
         ensures { Answers result self.old (deleted self.old fact.now) self.new }
     {
         let rules = rules_for(alloc, &self.logic, fact)?;
-        if !has_some(self.rules.as_slice(), rules.as_slice()) {
+        if !self.rules.has_some(rules.as_slice()) {
             return Err(SimpFail::NotThere);
         }
-        take_out_all(&mut self.rules, rules.as_slice());
+        self.rules.take_out_all(rules.as_slice());
         Ok(())
     }
 
     /// Adds a congruence rule, which is tried before those that are there.
+    #[tactic(auto, using(crate::proofs::Answering::cong_refused, crate::proofs::Answering::cong_there, crate::proofs::Answering::cong_ok))]
     pub fn add_cong(&mut self, alloc: Global, fact: &Thm) -> Result<(), SimpFail>
         ensures { Answers result self.old (cong_added self.old fact.now) self.new }
     {
         let Some(cong) = cong_of(alloc, fact)? else {
             return Err(SimpFail::NotEquation);
         };
-        if is_stated_by(self.congs.as_slice(), cong.thm().prop()) {
+        if self.congs.states(cong.thm().prop()) {
             return Ok(());
         }
-        add_first(&mut self.congs, cong)?;
+        self.congs.add(cong)?;
         Ok(())
     }
 
     /// Takes out a congruence rule.
+    #[tactic(auto, using(crate::proofs::Answering::cong_not_there, crate::proofs::Answering::cong_deleted_ok))]
     pub fn del_cong(&mut self, fact: &Thm) -> Result<(), SimpFail>
         ensures { Answers result self.old (cong_deleted self.old fact.now) self.new }
     {
-        if take_out_cong(&mut self.congs, fact.prop()) {
-            Ok(())
-        } else {
-            Err(SimpFail::NotThere)
+        if !self.congs.states(fact.prop()) {
+            return Err(SimpFail::NotThere);
         }
+        self.congs.take_out(fact.prop());
+        Ok(())
     }
 
     /// Adds a split rule, which is tried before those that are there.
+    #[tactic(auto, using(crate::proofs::Answering::refused, crate::proofs::Answering::split_refused, crate::proofs::Answering::split_ok))]
     pub fn add_split(&mut self, alloc: Global, fact: &Thm) -> Result<(), SimpFail>
         ensures { Answers result self.old (split_added self.old fact.now) self.new }
     {
@@ -268,25 +248,27 @@ impl Simpset {
         if let Some(fail) = split_refusal(alloc, &found)? {
             return Err(fail);
         }
-        add_found(alloc, &mut self.splits, &found)?;
+        self.splits.add_found(alloc, &found)?;
         Ok(())
     }
 
     /// Takes out a split rule.
+    #[tactic(auto, using(crate::proofs::Answering::no_split, crate::proofs::Answering::split_not_there, crate::proofs::Answering::split_deleted_ok))]
     pub fn del_split(&mut self, alloc: Global, fact: &Thm) -> Result<(), SimpFail>
         ensures { Answers result self.old (split_deleted self.old fact.now) self.new }
     {
         let Some(rule) = split_of(alloc, &self.logic, fact)? else {
             return Err(SimpFail::NotThere);
         };
-        if take_out(&mut self.splits, rule.thm().prop()) {
-            Ok(())
-        } else {
-            Err(SimpFail::NotThere)
+        if !self.splits.states(rule.thm().prop()) {
+            return Err(SimpFail::NotThere);
         }
+        self.splits.take_out(rule.thm().prop());
+        Ok(())
     }
 
     /// Adds a split rule that is tried after the split rules, and after the loopers that are there.
+    #[tactic(auto, using(crate::proofs::Answering::refused, crate::proofs::Answering::looper_refused, crate::proofs::Answering::looper_ok))]
     pub fn add_looper(&mut self, alloc: Global, fact: &Thm) -> Result<(), SimpFail>
         ensures { Answers result self.old (looper_added self.old fact.now) self.new }
     {
@@ -294,11 +276,12 @@ impl Simpset {
         if let Some(fail) = split_refusal(alloc, &found)? {
             return Err(fail);
         }
-        add_last(&mut self.loopers, found)?;
+        self.loopers.add_last(found)?;
         Ok(())
     }
 
     /// Adds a fact of a simplification procedure, behind those that are there.
+    #[tactic(auto, using(crate::proofs::Answering::refused, crate::proofs::Answering::proc_refused, crate::proofs::Answering::proc_ok))]
     pub fn add_proc(&mut self, alloc: Global, proc: Proc, fact: &Thm) -> Result<(), SimpFail>
         ensures { Answers result self.old (proc_added proc self.old fact.now) self.new }
     {
@@ -306,11 +289,12 @@ impl Simpset {
         if let Some(fail) = proc_refusal(alloc, &found)? {
             return Err(fail);
         }
-        add_proc(alloc, &mut self.procs, proc, &found)?;
+        self.procs.add(alloc, proc, &found)?;
         Ok(())
     }
 
     /// Adds a fact that solves what it matches, behind those that are there.
+    #[tactic(auto, using(crate::proofs::Answering::solver_there, crate::proofs::Answering::solver_new))]
     pub fn add_solver(&mut self, alloc: Global, fact: &Thm) -> Result<(), AllocError>
         ensures ok { OnOk result (self.new ≡ with_solver self.old fact.now) }
         ensures err { OnErr result (self.new ≡ self.old) }
@@ -318,6 +302,8 @@ impl Simpset {
         if is_fact_of(self.solvers.as_slice(), fact) {
             return Ok(());
         }
-        self.solvers.push(fact.copy(alloc)?)
+        let other = fact.copy(alloc)?;
+        self.solvers.push(other)?;
+        Ok(())
     }
 }

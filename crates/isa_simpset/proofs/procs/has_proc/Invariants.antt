@@ -1,5 +1,5 @@
 use Rattle.std.proofs.Common.{◌≡◌, drop}
-use Rattle.isa_simpset.specs.Simpsets.{has_proc}
+use Rattle.isa_simpset.specs.Lists.{has_proc}
 use Rattle.isa_simpset.proofs.procs.has_proc.Given as goal
 
 abbrev pub invariant-loop-other : goal.invariant-loop-other

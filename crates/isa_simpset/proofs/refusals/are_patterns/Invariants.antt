@@ -1,5 +1,5 @@
 use Rattle.std.proofs.Common.{◌≡◌, drop}
-use Rattle.isa_simpset.specs.Simpsets.{are_patterns}
+use Rattle.isa_simpset.specs.Refusals.{are_patterns}
 use Rattle.isa_simpset.proofs.refusals.are_patterns.Given as goal
 
 abbrev pub invariant-loop-rule : goal.invariant-loop-rule

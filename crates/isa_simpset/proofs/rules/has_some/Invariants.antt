@@ -1,5 +1,5 @@
 use Rattle.std.proofs.Common.{◌≡◌, drop}
-use Rattle.isa_simpset.specs.Simpsets.{has_some}
+use Rattle.isa_simpset.specs.Lists.{has_some}
 use Rattle.isa_simpset.proofs.rules.has_some.Given as goal
 
 abbrev pub invariant-loop-other : goal.invariant-loop-other

@@ -1,5 +1,5 @@
 use Rattle.std.proofs.Common.{◌≡◌, drop}
-use Rattle.isa_simpset.specs.Simpsets.{is_stated}
+use Rattle.isa_simpset.specs.Lists.{is_stated}
 use Rattle.isa_simpset.proofs.rules.is_stated.Given as goal
 
 abbrev pub invariant-loop-rule : goal.invariant-loop-rule

@@ -1,5 +1,5 @@
 use Rattle.std.proofs.Common.{◌≡◌, drop}
-use Rattle.isa_simpset.specs.Simpsets.{place_of}
+use Rattle.isa_simpset.specs.Lists.{place_of}
 use Rattle.isa_simpset.proofs.rules.place_of.Given as goal
 
 abbrev pub invariant-loop-place : goal.invariant-loop-place

@@ -1,5 +1,5 @@
 use Rattle.std.proofs.Common.{◌≡◌, ◌+◌, drop}
-use Rattle.isa_simpset.specs.Simpsets.{rank_place}
+use Rattle.isa_simpset.specs.Lists.{rank_place}
 use Rattle.isa_simpset.proofs.rules.rank_place.Given as goal
 
 abbrev pub invariant-loop-place : goal.invariant-loop-place

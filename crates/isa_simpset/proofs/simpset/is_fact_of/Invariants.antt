@@ -1,5 +1,5 @@
 use Rattle.std.proofs.Common.{◌≡◌, drop}
-use Rattle.isa_simpset.specs.Simpsets.{is_fact_of}
+use Rattle.isa_simpset.specs.Lists.{is_fact_of}
 use Rattle.isa_simpset.proofs.simpset.is_fact_of.Given as goal
 
 abbrev pub invariant-loop-other : goal.invariant-loop-other
