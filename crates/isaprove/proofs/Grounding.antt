@@ -266,15 +266,15 @@ attribute_on_grounded : (c : ContextSeen) (ths : List Theorem) (a : Attribute) (
 unfolding with_attribute_on
 attribute_on_grounded c ths a e g h = each_keeps (λ d. IsGrounded d) (λ d th. with_attribute d a th) c ths e (λ d th e. attribute_grounded d a th e) g h
 
-attributes_grounded : (c : ContextSeen) (as : List Attribute) (ths : List Theorem) (e : ContextSeen) → IsGrounded c → with_attributes c as ths ≡ Ok e → IsGrounded e
+attributes_grounded : (c : ContextSeen) (attributes : List Attribute) (ths : List Theorem) (e : ContextSeen) → IsGrounded c → with_attributes c attributes ths ≡ Ok e → IsGrounded e
 unfolding with_attributes
-attributes_grounded c as ths e g h = each_keeps (λ d. IsGrounded d) (λ d a. with_attribute_on d ths a) c as e (λ d a e. attribute_on_grounded d ths a e) g h
+attributes_grounded c attributes ths e g h = each_keeps (λ d. IsGrounded d) (λ d a. with_attribute_on d ths a) c attributes e (λ d a e. attribute_on_grounded d ths a e) g h
 
-fact_declared_grounded : (c : ContextSeen) (x : List ℕ) (as : List Attribute) (e : ContextSeen) → IsGrounded c → with_declared c x as ≡ Ok e → IsGrounded e
+fact_declared_grounded : (c : ContextSeen) (x : List ℕ) (attributes : List Attribute) (e : ContextSeen) → IsGrounded c → with_declared c x attributes ≡ Ok e → IsGrounded e
 unfolding with_declared
-fact_declared_grounded c x as e g h =
+fact_declared_grounded c x attributes e g h =
     let ths = bind_ok (known_fact c x) _ h in
-    attributes_grounded c as ths.0 e g ths.2
+    attributes_grounded c attributes ths.0 e g ths.2
 
 labels_grounded : (c : ContextSeen) (axioms : List NewAxiom) (e : ContextSeen) → IsGrounded c → with_labels c axioms ≡ Ok e → IsGrounded e
 labels_grounded c axioms e g h = each_keeps (λ d. IsGrounded d) (λ d a. with_declared d a.label.name a.label.attributes) c axioms e (λ d a e. fact_declared_grounded d a.label.name a.label.attributes e) g h

@@ -191,7 +191,7 @@ cited_kept ax n th k =
     record {
       derived = cited_sound n th k.closed k.derived;
       closed = refl;
-      rests = subst (λ (as : List NamedProp). Within (map (λ a. bare a.prop) as) ax) (sym (cite_axioms n th.prop (axioms_of_base th.base))) k.rests;
+      rests = subst (λ (axioms : List NamedProp). Within (map (λ a. bare a.prop) axioms) ax) (sym (cite_axioms n th.prop (axioms_of_base th.base))) k.rests;
     }
 
 closed_grounded : (c : ContextSeen) (th : Theorem) → IsGrounded c → IsGrounded (with_closed c th)
