@@ -1,8 +1,9 @@
 //! Subgoals, and the goal that they imply by a theorem, in any form.
-ghost use Rattle.std.specs.Prelude.{◌≡◌, take, drop, true, Some, Ok, IfOk, is_ok};
+ghost use Rattle.std.specs.Prelude.{◌≡◌, ◌<◌, ◌≤◌, length, take, drop, true, Some, Ok, IfOk};
 ghost use Rattle.isa_kernel.specs.Inferences.{keeps};
 ghost use Rattle.isa_goal.specs.Follows.{instanced, IsNormalState};
 ghost use Rattle.isa_goal.specs.Names.{normalised, reshaped, canon, naming};
+ghost use Rattle.isa_goal.specs.Private.Granting.{IsGranted};
 ghost use Rattle.isa_goal.specs.Private.Numbers.{NumbersFit};
 ghost use Rattle.isa_goal.specs.Focus.{focused, put_back};
 ghost use Rattle.isa_goal.specs.Goals.{Goals, IsStanding, has_parameter, theorem_of, Proves, Gives, Finishes, started, refined};
@@ -132,14 +133,16 @@ impl Draft {
 
     /// The subgoal of that number alone, with the others as premises of the goal.
     pub(crate) fn alone_at(&self, alloc: Global, i: usize) -> Result<Draft, AllocError>
+        requires first { 0 < i }
+        requires last { i ≤ length self.now.subgoals }
         ensures { IfOk result (λ t. focused i self.now ≡ Some t) }
     {
         let Some((before, subgoal, behind)) = around(self.subgoals.as_slice(), i) else {
-            return Err(AllocError);
+            unreachable!();
         };
         let mut subgoals = Terms::new(alloc);
         subgoals.push(subgoal.copy()?)?;
-        let thm = never_refused(rotate(alloc, before, subgoals.as_slice(), &self.thm))?;
+        let thm = granted(rotate(alloc, before, subgoals.as_slice(), &self.thm))?;
         let others = make_implies(alloc, behind, &self.goal)?;
         let goal = make_implies(alloc, before, &others)?;
         Ok(Draft {
@@ -161,7 +164,7 @@ impl Draft {
         let taken = split_leading(others, &self.goal, Terms::new(alloc))?;
         let (before, behind) = split_at_most(taken.premises.as_slice(), front);
         let subgoals = self.subgoals.as_slice();
-        let thm = never_refused(rotate(alloc, subgoals, before, &self.thm))?;
+        let thm = granted(rotate(alloc, subgoals, before, &self.thm))?;
         let all = spliced(alloc, before, subgoals, behind)?;
         Ok(Draft {
             thm,
@@ -195,15 +198,15 @@ impl Draft {
         requires { keeps inst.now.types inst.now.terms ≡ true }
         ensures { IfOk result (λ t. t ≡ instanced inst.now self.now) }
     {
-        let thm = never_refused(instantiate_thm(alloc, inst, &self.thm))?;
-        match split_rule(alloc, self.subgoals.len(), &thm)? {
-            None => Err(AllocError),
-            Some(parts) => Ok(Draft {
-                thm,
-                subgoals: parts.premises,
-                goal: parts.conclusion,
-            }),
-        }
+        let thm = granted(instantiate_thm(alloc, inst, &self.thm))?;
+        let Some(parts) = split_rule(alloc, self.subgoals.len(), &thm)? else {
+            unreachable!();
+        };
+        Ok(Draft {
+            thm,
+            subgoals: parts.premises,
+            goal: parts.conclusion,
+        })
     }
 
     /// The draft with each subgoal in the form.
@@ -211,15 +214,15 @@ impl Draft {
         requires { IsNormalState self.now }
         ensures { IfOk result (λ t. t ≡ reshaped self.now) }
     {
-        let thm = never_refused(reshape(alloc, self.subgoals.as_slice(), &self.thm))?;
-        match split_rule(alloc, self.subgoals.len(), &thm)? {
-            None => Err(AllocError),
-            Some(parts) => Ok(Draft {
-                thm,
-                subgoals: parts.premises,
-                goal: parts.conclusion,
-            }),
-        }
+        let thm = granted(reshape(alloc, self.subgoals.as_slice(), &self.thm))?;
+        let Some(parts) = split_rule(alloc, self.subgoals.len(), &thm)? else {
+            unreachable!();
+        };
+        Ok(Draft {
+            thm,
+            subgoals: parts.premises,
+            goal: parts.conclusion,
+        })
     }
 
     /// The canonical form.
@@ -238,14 +241,15 @@ impl Draft {
     }
 }
 
-/// Want of memory, in the place of a refusal that can't come.
-pub(crate) fn never_refused(answer: Result<Thm, InferenceError>) -> Result<Thm, AllocError>
-    ensures theorem { IfOk result (λ th. answer ≡ Ok th) }
-    ensures given { is_ok result ≡ is_ok answer }
+/// The theorem of an inference that doesn't refuse.
+fn granted(answer: Result<Thm, InferenceError>) -> Result<Thm, AllocError>
+    requires { IsGranted answer }
+    ensures { IfOk result (λ th. answer ≡ Ok th) }
 {
     match answer {
         Ok(th) => Ok(th),
-        Err(_) => Err(AllocError),
+        Err(InferenceError::Memory) => Err(AllocError),
+        Err(InferenceError::Shape) => unreachable!(),
     }
 }
 

@@ -1,6 +1,6 @@
 -- The printed text of terms, states and theorems: Isabelle's `?x.n` for unknowns, and application and `==>` as in the
 -- Isabelle/Isar Reference Manual, chapter "Inner syntax"; the layout is this project's own.
-use Rattle.std.specs.Prelude.{◌≡◌, ℕ, ◌+◌, Bool, true, false, if◌then◌else◌, List, [], ◌∷◌, ◌++◌, length, nat_eq, codes, decimal}
+use Rattle.std.specs.Prelude.{◌≡◌, ℕ, ◌+◌, Bool, true, false, if◌then◌else◌, List, [], ◌∷◌, ◌++◌, length, nat_eq, codes, decimal, Option, Some, None}
 use Rattle.isa_terms.specs.Terms.{Tm, Const, Free, Unknown, Bound, Abs, App}
 use Rattle.isa_terms.specs.Equal.{name_eq}
 
@@ -56,9 +56,14 @@ unfoldable pub state_text : List ℕ → List Tm → List ℕ
 state_text judgment [] = codes "No subgoals!\n"
 state_text judgment (t ∷ ts) = count_text (length (t ∷ ts)) ++ subgoals_text judgment 1 (t ∷ ts)
 
--- a theorem under its name
-unfoldable pub theorem_text : List ℕ → List ℕ → Tm → List ℕ
-theorem_text judgment name t = codes "theorem " ++ (name ++ (codes ": " ++ (prop_text judgment false t ++ codes "\n")))
+-- a blank and the name, where there is one
+abbrev pub name_text : Option (List ℕ) → List ℕ
+name_text None = []
+name_text (Some name) = codes " " ++ name
+
+-- a theorem, under its name where it has one
+unfoldable pub theorem_text : List ℕ → Option (List ℕ) → Tm → List ℕ
+theorem_text judgment name t = codes "theorem" ++ (name_text name ++ (codes ": " ++ (prop_text judgment false t ++ codes "\n")))
 
 -- how `A ==> B` is printed
 pub record IsImplication (A B t : Tm) : Type 0 where

@@ -1,7 +1,8 @@
 //! The printed text of terms, states and theorems.
 ghost use Rattle.std.specs.Prelude.{◌≡◌, ◌<◌, ◌^◌, ◌∷◌, ◌++◌, length, codes, decimal, true, false, IfOk, IfSome, IfNone, OnOk, string_bytes};
+ghost use Rattle.std.specs.Option.{option_copied};
 ghost use Rattle.isa_terms.specs.Terms.{nodes};
-ghost use Rattle.isa_print.specs.Text.{unknown_text, parenthesized, term_text, is_constant, judgment_text, prop_text, subgoal_text, subgoals_text, count_text, state_text, theorem_text, IsImplication, IsOther};
+ghost use Rattle.isa_print.specs.Text.{unknown_text, parenthesized, term_text, is_constant, judgment_text, prop_text, subgoal_text, subgoals_text, count_text, state_text, name_text, theorem_text, IsImplication, IsOther};
 
 use isa_terms::{Name, Term, TermNode};
 use std::alloc::{AllocError, Global};
@@ -182,18 +183,31 @@ pub fn state_text(alloc: Global, judgment: &Name, subgoals: &[Term]) -> Result<V
     Ok(text)
 }
 
-/// The text of a theorem under its name.
+/// Adds a blank and the name, where there is one.
+fn push_name(text: &mut Vec<u8>, name: Option<&Name>) -> Result<(), AllocError>
+    ensures { OnOk result (text.new.items ≡ text.old.items ++ name_text (option_copied name.entry)) }
+{
+    match name {
+        None => Ok(()),
+        Some(name) => {
+            push_all(text, b" ")?;
+            push_all(text, name.as_bytes())
+        }
+    }
+}
+
+/// The text of a theorem, under its name where it has one.
 #[tactic(auto, unfolding(crate::specs::Text::theorem_text))]
 pub fn theorem_text(
     alloc: Global,
     judgment: &Name,
-    name: &Name,
+    name: Option<&Name>,
     prop: &Term,
 ) -> Result<Vec<u8>, AllocError>
-    ensures { IfOk result (λ text. text.items ≡ theorem_text judgment.now name.now prop.now) }
+    ensures { IfOk result (λ text. text.items ≡ theorem_text judgment.now (option_copied name.entry) prop.now) }
 {
-    let mut text = Vec::from_slice(alloc, b"theorem ")?;
-    push_all(&mut text, name.as_bytes())?;
+    let mut text = Vec::from_slice(alloc, b"theorem")?;
+    push_name(&mut text, name)?;
     push_all(&mut text, b": ")?;
     push_prop(alloc, judgment.as_bytes(), false, prop, &mut text)?;
     push_all(&mut text, b"\n")?;

@@ -10,7 +10,7 @@ use Rattle.isa_terms.specs.Instances.{Each}
 use Rattle.isa_kernel.specs.Logic.{prop, all}
 use Rattle.isa_kernel.specs.declared.inference.InferenceError.{InferenceError}
 use Rattle.isa_kernel.specs.Inferences.{Answers}
-use Rattle.isa_kernel.specs.Theorem.{Theorem}
+use Rattle.isa_kernel.specs.Theorem.{Theorem, IsDerived}
 use Rattle.isa_subgoal.specs.declared.lift.Parameter.{Parameter}
 use Rattle.isa_subgoal.specs.Premises.{implies, premises, conclusion}
 
@@ -67,3 +67,7 @@ pub record IsLiftable (xs : List Parameter) (hs : List Tm) (th : Theorem) : Type
 -- no refusal comes for a normal rule without hypotheses and assumptions that are propositions under the parameters
 abbrev pub Lifts : List Parameter → List Tm → Theorem → Result Theorem InferenceError → Type 0
 Lifts xs hs th answer = th.hyps ≡ [] → IsNormal th.prop → Each (λ h. Typed (types_under xs []) h prop) hs → Answers answer (Some (lifted_rule xs hs th))
+
+-- what is lifted has a derivation where the rule has one
+abbrev pub LiftedIsDerived : Type 0
+LiftedIsDerived = (xs : List Parameter) (hs : List Tm) (th : Theorem) → IsLiftable xs hs th → IsDerived th → IsDerived (lifted_rule xs hs th)

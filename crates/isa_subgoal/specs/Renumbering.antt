@@ -6,7 +6,7 @@ use Rattle.isa_terms.specs.Terms.{Tm, Const, Free, Unknown, Bound, Abs, App}
 use Rattle.isa_terms.specs.Normal.{IsNormal}
 use Rattle.isa_kernel.specs.declared.inference.InferenceError.{InferenceError}
 use Rattle.isa_kernel.specs.Inferences.{Answers}
-use Rattle.isa_kernel.specs.Theorem.{Theorem}
+use Rattle.isa_kernel.specs.Theorem.{Theorem, IsDerived}
 
 -- the type with the numbers of its type unknowns raised by n
 abbrev mutual
@@ -40,3 +40,7 @@ pub record IsBareRule (th : Theorem) : Type 0 where
 -- no refusal comes for a normal rule without hypotheses
 abbrev pub Renumbers : ℕ → Theorem → Result Theorem InferenceError → Type 0
 Renumbers n th answer = th.hyps ≡ [] → IsNormal th.prop → Answers answer (Some (renumbered_rule n th))
+
+-- with other numbers it has a derivation where the rule has one
+abbrev pub RenumberedIsDerived : Type 0
+RenumberedIsDerived = (n : ℕ) (th : Theorem) → IsBareRule th → IsDerived th → IsDerived (renumbered_rule n th)

@@ -14,7 +14,9 @@ mod steps;
 
 pub use elimination::make_elimination;
 pub use isa_kernel::make_implies;
-pub use laws::{lifting_without_parameters, parts_make_the_subgoal, subgoals_are_formed};
+pub use laws::{
+    lifting_without_parameters, parts_make_the_subgoal, rules_stay_derived, subgoals_are_formed,
+};
 pub use lift::{Parameter, lifted};
 pub use lifting::lift_rule;
 pub use parts::{SubgoalParts, split_subgoal};

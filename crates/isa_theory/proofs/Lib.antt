@@ -1,4 +1,5 @@
 pub mod Growing
 pub mod Steps
-pub mod Closing
+pub mod Syntaxes
 pub mod Loops
+pub mod OneAnswer

@@ -9,6 +9,7 @@ use Rattle.isa_outer.specs.declared.command.Declaration.{Declaration}
 use Rattle.isa_outer.specs.declared.method.Modifier.{Modifier}
 use Rattle.isa_theory.specs.Contexts.{ContextSeen}
 use Rattle.isa_theory.specs.Results.{◌>>=◌, each}
+use Rattle.isa_theory.specs.Told.{Each, IsDone, Stops, GoesOn}
 use Rattle.isa_theory.specs.Applying.{known_fact, known_facts, all_known, declared_facts}
 use Rattle.isa_outer.specs.Methods.{Method, At}
 use Rattle.isa_outer.specs.Methods as method
@@ -115,6 +116,30 @@ each_refused f first now xs i x cause h at so e =
 
 pub each_end : {B : Type 0} (f : ContextSeen → B → Result ContextSeen Kind) (first now : ContextSeen) (xs : List B) (i : ℕ) → length xs ≤ i → EachSoFar f first now xs i → each f first xs ≡ Ok now
 each_end f first now xs i h so = so.is ∙ ap (λ l. each f now l) (drop_of_length-le xs h)
+
+-- ---- one step that reads for each item: what may come of the rest may come of all
+pub record ToldSoFar {B : Type 0} (step : ContextSeen → B → Result ContextSeen Kind → Type 0) (first now : ContextSeen) (xs : List B) (i : ℕ) : Type 0 where
+  pub is : (r : Result ContextSeen Kind) → Each step now (drop i xs) r → Each step first xs r
+  pub grows : Grows first now
+
+pub told_start : {B : Type 0} (step : ContextSeen → B → Result ContextSeen Kind → Type 0) (c : ContextSeen) (xs : List B) → ToldSoFar step c c xs 0
+told_start step c xs = record { is = λ r e. e; grows = grows_same c }
+
+pub told_next : {B : Type 0} (step : ContextSeen → B → Result ContextSeen Kind → Type 0) (first now then : ContextSeen) (xs : List B) (i : ℕ) (x : B) → i < length xs → x ≡ get_or xs i x → ToldSoFar step first now xs i → step now x (Ok then) → Grows now then →
+    ToldSoFar step first then xs (i + 1)
+told_next {B} step first now then xs i x h at so e g =
+    record {
+      is = λ r all. so.is r (subst (λ (l : List B). Each step now l r) (sym (drop_more xs i x h)) (GoesOn now then (get_or xs i x) (drop (i + 1) xs) r (subst (λ (y : B). step now y (Ok then)) at e) all));
+      grows = grows_on first now then so.grows g;
+    }
+
+pub told_refused : {B : Type 0} (step : ContextSeen → B → Result ContextSeen Kind → Type 0) (first now : ContextSeen) (xs : List B) (i : ℕ) (x : B) (cause : Kind) → i < length xs → x ≡ get_or xs i x → ToldSoFar step first now xs i → step now x (Err cause) →
+    Each step first xs (Err cause)
+told_refused {B} step first now xs i x cause h at so e =
+    so.is (Err cause) (subst (λ (l : List B). Each step now l (Err cause)) (sym (drop_more xs i x h)) (Stops now (get_or xs i x) (drop (i + 1) xs) cause (subst (λ (y : B). step now y (Err cause)) at e)))
+
+pub told_end : {B : Type 0} (step : ContextSeen → B → Result ContextSeen Kind → Type 0) (first now : ContextSeen) (xs : List B) (i : ℕ) → length xs ≤ i → ToldSoFar step first now xs i → Each step first xs (Ok now)
+told_end {B} step first now xs i h so = so.is (Ok now) (subst (λ (l : List B). Each step now l (Ok now)) (sym (drop_of_length-le xs h)) (IsDone now))
 
 -- ---- the facts of modifiers
 pub modifiers_passed : (c : ContextSeen) (ms : List Modifier) (i : ℕ) (m : Modifier) → i < length ms → m ≡ get_or ms i m → all_known c (modifiers_facts ms) ≡ all_known c (modifiers_facts (drop i ms)) →

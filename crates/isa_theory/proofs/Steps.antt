@@ -1,5 +1,5 @@
 -- What each step of a command answers.
-use Rattle.std.proofs.Common.{◌≡◌, ◌≢◌, ℕ, Bool, true, false, List, [], ◌∷◌, ◌++◌, refl, sym, ap, subst, ◌∙◌, append-nil}
+use Rattle.std.proofs.Common.{◌≡◌, ◌≢◌, ℕ, Bool, true, false, List, [], ◌∷◌, ◌++◌, refl, sym, ap, subst, ◌∙◌}
 use Rattle.std.specs.Prelude.{Option, Some, None, Result, Ok, Err, IsErrAnd, is_some}
 use Rattle.isa_kernel.specs.declared.declarations.Declaration.{Declaration}
 use Rattle.isa_kernel.specs.declared.declarations.TheoryFail.{TheoryFail}
@@ -16,9 +16,12 @@ use Rattle.isa_kernel.proofs.Theories.{insert_new}
 use Rattle.isa_outer.specs.declared.refusal.Sort.TheVariants as sort
 use Rattle.isa_theory.specs.Contexts.{ContextSeen, fact_of}
 use Rattle.isa_theory.specs.Applying.{kind_of, declared, new_name, new_fact, with_fact}
-use Rattle.isa_theory.specs.Private.Growing.{Grows, Becomes}
+use Rattle.isa_outer.specs.declared.command.Attribute.{Attribute}
+use Rattle.isa_terms.specs.Terms.{Tm}
+use Rattle.isa_theory.specs.declared.lemma.Lemma.{Lemma}
+use Rattle.isa_theory.specs.Private.Growing.{Becomes, MayBecome}
 use Rattle.isa_theory.specs.Results.{Answers}
-use Rattle.isa_theory.proofs.Growing.{goes_same, goes_more}
+use Rattle.isa_theory.specs.Told.{Reading, IsUnread, IsRead, Then, Leads, May}
 
 -- the theory refused the declaration
 pub refused : (s : Sort) (d : Declaration) (r : Option TheoryFail) (old new : List Declaration) (fault : TheoryFail) (k : Kind) (c : ContextSeen) →
@@ -53,6 +56,36 @@ pub becomes_refused : {A : Type 0} (now : ContextSeen) (wanted : Result ContextS
 becomes_refused {A} now wanted (Ok a) k h f = absurd h
 becomes_refused {A} now wanted (Err e) k h f = subst (λ (j : Kind). j ≢ kind.Memory → wanted ≡ Err j) (sym h) f
 
+-- a step that reads
+pub may_refused : {A : Type 0} (wanted : Result A Kind → Type 0) (r : Result A Kind) (k : Kind) → IsErrAnd r (λ e. e ≡ k) → (k ≢ kind.Memory → wanted (Err k)) → May wanted r
+may_refused {A} wanted (Ok a) k h f = absurd h
+may_refused {A} wanted (Err e) k h f = subst (λ (j : Kind). j ≢ kind.Memory → wanted (Err j)) (sym h) f
+
+pub may_become_refused : {A : Type 0} (now : ContextSeen) (wanted : Result ContextSeen Kind → Type 0) (r : Result A Kind) (k : Kind) → IsErrAnd r (λ e. e ≡ k) → (k ≢ kind.Memory → wanted (Err k)) → MayBecome r now wanted
+may_become_refused {A} now wanted (Ok a) k h f = absurd h
+may_become_refused {A} now wanted (Err e) k h f = subst (λ (j : Kind). j ≢ kind.Memory → wanted (Err j)) (sym h) f
+
+-- a text was read, and a known step came behind it
+pub reading_becomes : {A : Type 0} (check : Result (Unit {0}) Kind) (tells : Result A Kind → Type 0) (rest : A → Result ContextSeen Kind) (a : A) (now : ContextSeen) (r : Result (Unit {0}) Kind) → check ≡ Ok tt → tells (Ok a) → Becomes r now (rest a) →
+    MayBecome r now (Reading check tells rest)
+reading_becomes {A} check tells rest a now (Ok u) c t h = IsRead a (Ok now) c t h
+reading_becomes {A} check tells rest a now (Err k) c t h = λ n. IsRead a (Err k) c t (h n)
+
+-- a text was read behind a check
+pub reading_may : {A : Type 0} (check : Result (Unit {0}) Kind) (tells : Result A Kind → Type 0) (r : Result A Kind) → check ≡ Ok tt → May tells r → May (Reading check tells (λ a. Ok a)) r
+reading_may {A} check tells (Ok a) c t = IsRead a (Ok a) c t refl
+reading_may {A} check tells (Err k) c t = λ n. IsUnread k c (t n)
+
+-- a known step came behind others
+pub then_becomes : (first : Result ContextSeen Kind → Type 0) (rest : ContextSeen → Result ContextSeen Kind) (c now : ContextSeen) (r : Result (Unit {0}) Kind) → first (Ok c) → Becomes r now (rest c) → MayBecome r now (Then first rest)
+then_becomes first rest c now (Ok u) f h = Leads c (Ok now) f h
+then_becomes first rest c now (Err k) f h = λ n. Leads c (Err k) f (h n)
+
+-- what may come of a known step
+pub becomes_may : {A : Type 0} (r : Result A Kind) (now : ContextSeen) (wanted : Result ContextSeen Kind) → Becomes r now wanted → MayBecome r now (λ w. wanted ≡ w)
+becomes_may {A} (Ok a) now wanted h = h
+becomes_may {A} (Err k) now wanted h = h
+
 -- a name that passed is new
 new_of : (x : List ℕ) (b : Bool) → new_name sort.Fact x b ≡ Ok tt → b ≡ false
 new_of x true e = absurd cc
@@ -67,8 +100,8 @@ unfolding new_fact
 new_fact_none c x e = none_of (fact_of c x) (new_of x (is_some (fact_of c x)) e)
 
 -- the same after more was declared
-pub still_none : (c d : ContextSeen) (x y : List ℕ) → new_fact c x ≡ Ok tt → d.facts ≡ c.facts → y ≡ x → fact_of d y ≡ None
-still_none c d x y n f e = ap (λ (z : List ℕ). lookup (name_eq z) d.facts) e ∙ ap (λ (fs : List (List ℕ × List Theorem)). lookup (name_eq x) fs) f ∙ new_fact_none c x n
+pub still_none : (c d : ContextSeen) (x y : List ℕ) → fact_of c x ≡ None → d.facts ≡ c.facts → y ≡ x → fact_of d y ≡ None
+still_none c d x y n f e = ap (λ (z : List ℕ). lookup (name_eq z) d.facts) e ∙ ap (λ (fs : List (List ℕ × List Theorem)). lookup (name_eq x) fs) f ∙ n
 
 -- a fact of a new name goes last
 pub fact_put : (c : ContextSeen) (x : List ℕ) (ths : List Theorem) (old new : List (List ℕ × List Theorem)) → old ≡ c.facts → fact_of c x ≡ None → new ≡ insert_entry name_eq old x ths → record c { facts = new } ≡ with_fact c x ths
@@ -76,3 +109,8 @@ fact_put c x ths old new o n e = ap (λ (fs : List (List ℕ × List Theorem)). 
 
 pub answers_same : {A : Type 0} (r : Result A Kind) (wanted other : Result A Kind) → wanted ≡ other → Answers r other → Answers r wanted
 answers_same r wanted other e h = subst (λ w. Answers r w) (sym e) h
+
+-- the lemma of these parts
+pub begun : (line : ℕ) (n m : Option (List ℕ)) (a b : List Attribute) (t : Tm) → m ≡ n → b ≡ a →
+    (let r : Result Lemma Kind = Ok (record { line = line; name = n; attributes = a; goal = t }) in r) ≡ Ok (record { line = line; name = m; attributes = b; goal = t })
+begun line n m a b t e f = λ i. Ok (record { line = line; name = sym e i; attributes = sym f i; goal = t })

@@ -1,7 +1,7 @@
 -- What each command that stands outside of proofs does to the context, or its first refusal.
 -- Source: the Isabelle/Isar Reference Manual, chapter "Specifications" (`typedecl`, `judgment`, `consts`, `axiomatization`, `lemmas`,
--- `declare`) and "Proofs" (`lemma`); which cause counts first is this project's own: the first in reading order, and last what is not built yet.
-use Rattle.std.specs.Prelude.{◌≡◌, ◌≢◌, ℕ, Bool, true, false, ◌||◌, if◌then◌else◌, List, [], ◌∷◌, ◌++◌, length, Option, Some, None, Result, Ok, Err, is_some, option_map}
+-- `declare`) and "Proofs" (`lemma`); which cause counts first is this project's own: the first in reading order.
+use Rattle.std.specs.Prelude.{◌≡◌, ◌≢◌, ℕ, Bool, true, false, if◌then◌else◌, List, [], ◌∷◌, ◌++◌, length, Option, Some, None, Result, Ok, Err, is_some, option_map}
 use Rattle.isa_terms.specs.Types.{Ty}
 use Rattle.isa_terms.specs.Terms.{Tm}
 use Rattle.isa_kernel.specs.Forms.{predicate_of}
@@ -27,13 +27,18 @@ use Rattle.isa_outer.specs.declared.command.Attribute.TheVariants as attribute
 use Rattle.isa_outer.specs.declared.command.Setting.{Setting}
 use Rattle.isa_outer.specs.declared.command.Command.{Command}
 use Rattle.isa_outer.specs.declared.command.Command.TheVariants as command
-use Rattle.isa_texts.specs.declared.signature.Variables.TheVariants as variables
-use Rattle.isa_theory.specs.Contexts.{ContextSeen, fact_of, judgment_name, signature_of}
+use Rattle.isa_outer.specs.declared.command.Notation.{Notation}
+use Rattle.isa_syntax.specs.Syntaxes.{SyntaxSeen}
+use Rattle.isa_syntax.specs.Syntaxes as syntax
+use Rattle.isa_syntax.specs.Notations as notations
+use Rattle.isa_theory.specs.Contexts.{ContextSeen, fact_of, judgment_name}
+use Rattle.isa_theory.specs.General.{general_type, general_prop}
 use Rattle.isa_theory.specs.declared.lemma.Lemma.{Lemma}
 use Rattle.isa_theory.specs.MethodFacts.{method_facts}
-use Rattle.isa_theory.specs.Reading.{read_type, read_prop}
+use Rattle.isa_theory.specs.Reading.{IsTypeOf, IsPropOf}
 use Rattle.isa_theory.specs.Options.{with_setting}
 use Rattle.isa_theory.specs.Results.{◌>>=◌, each, or_refused}
+use Rattle.isa_theory.specs.Told.{Reading, Each, Then}
 use Rattle.isa_theory.specs.Roles.{has_form, with_role, role_name}
 
 -- ---- what the theory refuses
@@ -51,65 +56,57 @@ abbrev pub declared : Sort → TheoryDeclaration → Option TheoryFail → Conte
 declared s d None c = Ok (record c { theory = c.theory ++ d ∷ [] })
 declared s d (Some fault) c = Err (kind_of s fault)
 
--- what is not built yet is refused last
-abbrev pub unless_built : {A : Type 0} → Bool → A → Result A Kind
-unless_built unbuilt a = if unbuilt then Err kind.NotBuilt else Ok a
-
 -- a name of this sort that is new
 abbrev pub new_name : Sort → List ℕ → Bool → Result (Unit {0}) Kind
 new_name s x there = if there then Err (kind.Duplicate s x) else Ok tt
 
-abbrev pub is_some_list : {A : Type 0} → List A → Bool
-is_some_list [] = false
-is_some_list (a ∷ more) = true
+-- the syntax is the next one, if there is one
+abbrev pub in_syntax : ContextSeen → Result SyntaxSeen Kind → Result ContextSeen Kind
+in_syntax c next = next >>= (λ s. Ok (record c { syntax = s }))
 
 -- ---- types and constants
 unfoldable pub with_type : ContextSeen → List ℕ → ℕ → Result ContextSeen Kind
-with_type c x n = declared sort.Type (Constructor x n) (type_refusal c.theory x) c
+with_type c x n = declared sort.Type (Constructor x n) (type_refusal c.theory x) c >>= (λ d. in_syntax d (syntax.with_type d.syntax x n))
 
 unfoldable pub with_constant : ContextSeen → List ℕ → Ty → Result ContextSeen Kind
-with_constant c x T = declared sort.Constant (Constant x T) (constant_refusal c.theory x T) c
-
--- a constant of the type of a text
-unfoldable pub with_typed : ContextSeen → List ℕ → Inner → Result (Ty × ContextSeen) Kind
-with_typed c x text = do
-  T ← read_type text
-  d ← with_constant c x T
-  Ok (T, d)
+with_constant c x T = declared sort.Constant (Constant x T) (constant_refusal c.theory x T) c >>= (λ d. in_syntax d (syntax.with_constant d.syntax x T))
 
 -- whether the name is that of a constant
 unfoldable pub new_constant : ContextSeen → List ℕ → Result (Unit {0}) Kind
 new_constant c x = new_name sort.Constant x (is_some (constant_type c.theory x))
 
--- NAME :: TYPE
-unfoldable pub with_new_constant : ContextSeen → List ℕ → Inner → Result ContextSeen Kind
-with_new_constant c x text = do
-  u ← new_constant c x
-  p ← with_typed c x text
-  Ok p.1
+-- the constant's notation, where it has one
+unfoldable pub with_notation : ContextSeen → List ℕ → Option Notation → Result ContextSeen Kind
+with_notation c x None = Ok c
+with_notation c x (Some n) = in_syntax c (notations.with_notation c.syntax x n)
+
+-- a constant of the type of its text, whose type variables become unknowns
+unfoldable pub constant_of : ContextSeen → NewConstant → Ty → Result ContextSeen Kind
+constant_of c k T = with_constant c k.name (general_type T) >>= (λ d. with_notation d k.name k.notation)
+
+-- NAME :: TYPE NOTE
+abbrev pub WithNewConstant : ContextSeen → NewConstant → Result ContextSeen Kind → Type 0
+WithNewConstant c k r = Reading (new_constant c k.name) (IsTypeOf c k.typ) (constant_of c k) r
 
 -- constants, one after the other
-abbrev pub with_constants : ContextSeen → List NewConstant → Result ContextSeen Kind
-with_constants c ks = each (λ d k. with_new_constant d k.name k.typ) c ks
-
-abbrev pub have_notation : List NewConstant → Bool
-have_notation [] = false
-have_notation (k ∷ ks) = is_some k.notation || have_notation ks
-
-unfoldable pub with_consts : ContextSeen → List NewConstant → Result ContextSeen Kind
-with_consts c ks = with_constants c ks >>= (λ d. unless_built (have_notation ks) d)
+abbrev pub WithConstants : ContextSeen → List NewConstant → Result ContextSeen Kind → Type 0
+WithConstants c ks r = Each WithNewConstant c ks r
 
 -- The judgment comes once; it is a constant of a type `T => prop`.
-abbrev pub judged : List ℕ → Ty × ContextSeen → Option Ty → Result ContextSeen Kind
-judged x p None = Err kind.Types
-judged x p (Some T) = Ok (record p.1 { judgment = Some (record { name = x; typ = T }) })
+unfoldable pub new_judgment : ContextSeen → List ℕ → Result (Unit {0}) Kind
+new_judgment c x = new_constant c x >>= (λ u. new_name sort.Judgment x (is_some c.syntax.signature.judgment))
 
-unfoldable pub with_judgment : ContextSeen → List ℕ → Inner → Result ContextSeen Kind
-with_judgment c x text = do
-  u ← new_constant c x
-  v ← new_name sort.Judgment x (is_some c.judgment)
-  p ← with_typed c x text
-  judged x p (predicate_of p.0)
+abbrev pub predicate_type : Ty → Result (Unit {0}) Kind
+predicate_type T = if is_some (predicate_of T) then Ok tt else Err kind.Types
+
+unfoldable pub judgment_of : ContextSeen → List ℕ → Ty → Result ContextSeen Kind
+judgment_of c x T = do
+  u ← predicate_type T
+  d ← with_constant c x (general_type T)
+  in_syntax d (syntax.with_judgment d.syntax x)
+
+abbrev pub WithJudgment : ContextSeen → List ℕ → Inner → Result ContextSeen Kind → Type 0
+WithJudgment c x text r = Reading (new_judgment c x) (IsTypeOf c text) (judgment_of c x) r
 
 -- ---- facts
 -- the fact stands last
@@ -139,18 +136,20 @@ all_known c (x ∷ xs) = known_fact c x >>= (λ ths. all_known c xs)
 unfoldable pub axiom_fact : ContextSeen → List ℕ → Result Theorem Kind
 axiom_fact c x = or_refused (kind.Unknown sort.Fact x) (option_map (axiom_theorem x) (axiom_prop c.theory x))
 
--- NAME: PROP. The axiom is declared, and is a fact of a new name.
-unfoldable pub with_axiom : ContextSeen → List ℕ → Inner → Result ContextSeen Kind
-with_axiom c x text = do
-  u ← new_fact c x
-  p ← read_prop (signature_of c) variables.Unknown text
-  d ← declared sort.Fact (Axiom x p) (axiom_refusal c.theory x p) c
+-- the axiom of the proposition of its text, whose variables become unknowns, is declared, and is a fact
+unfoldable pub axiom_of : ContextSeen → List ℕ → Tm → Result ContextSeen Kind
+axiom_of c x p = do
+  d ← declared sort.Fact (Axiom x (general_prop p)) (axiom_refusal c.theory x (general_prop p)) c
   th ← axiom_fact d x
   Ok (with_fact d x (th ∷ []))
 
+-- NAME: PROP, of a new name
+abbrev pub WithAxiom : ContextSeen → NewAxiom → Result ContextSeen Kind → Type 0
+WithAxiom c a r = Reading (new_fact c a.label.name) (IsPropOf c false a.prop) (axiom_of c a.label.name) r
+
 -- axioms, one after the other
-abbrev pub with_axioms : ContextSeen → List NewAxiom → Result ContextSeen Kind
-with_axioms c axioms = each (λ d a. with_axiom d a.label.name a.prop) c axioms
+abbrev pub WithAxioms : ContextSeen → List NewAxiom → Result ContextSeen Kind → Type 0
+WithAxioms c axioms r = Each WithAxiom c axioms r
 
 -- ---- attributes
 -- the facts with a role after an attribute, which asks for the role's form; j is the judgment's name
@@ -161,7 +160,7 @@ logic_with j l _ th = Ok l
 -- The theorem is declared by the attribute. What it is for the simplifier and the classical reasoner is kept and not looked at.
 unfoldable pub with_attribute : ContextSeen → Attribute → Theorem → Result ContextSeen Kind
 with_attribute c a th = do
-  l ← logic_with (judgment_name c.judgment) c.logic a th
+  l ← logic_with (judgment_name c) c.logic a th
   Ok (record c { declarations = c.declarations ++ record { attribute = a; thm = th } ∷ []; logic = l })
 
 -- an attribute acts on each of the theorems
@@ -180,8 +179,8 @@ with_declared c x attributes = known_fact c x >>= (λ ths. with_attributes c att
 abbrev pub with_labels : ContextSeen → List NewAxiom → Result ContextSeen Kind
 with_labels c axioms = each (λ d a. with_declared d a.label.name a.label.attributes) c axioms
 
-unfoldable pub with_axiomatization : ContextSeen → List NewAxiom → Result ContextSeen Kind
-with_axiomatization c axioms = with_axioms c axioms >>= (λ d. with_labels d axioms)
+abbrev pub WithAxiomatization : ContextSeen → List NewAxiom → Result ContextSeen Kind → Type 0
+WithAxiomatization c axioms r = Then (WithAxioms c axioms) (λ d. with_labels d axioms) r
 
 unfoldable pub with_lemmas : ContextSeen → Label → List (List ℕ) → Result ContextSeen Kind
 with_lemmas c label xs = do
@@ -221,47 +220,37 @@ abbrev pub label_attributes : Option Label → List Attribute
 label_attributes None = []
 label_attributes (Some label) = label.attributes
 
-abbrev pub has_attributes : Option Label → Bool
-has_attributes None = false
-has_attributes (Some label) = is_some_list label.attributes
-
 -- the proposition that a lemma of a new name is about
-unfoldable pub prop_of : ContextSeen → Option Label → Inner → Result Tm Kind
-prop_of c label text = do
-  u ← new_label c label
-  read_prop (signature_of c) variables.Fixed text
-
--- the same for a lemma without attributes
-unfoldable pub goal_of : ContextSeen → Option Label → Inner → Result Tm Kind
-goal_of c label text = prop_of c label text >>= (λ p. unless_built (has_attributes label) p)
+abbrev pub IsGoalOf : ContextSeen → Bool → Option Label → Inner → Result Tm Kind → Type 0
+IsGoalOf c schematic label text r = Reading (new_label c label) (IsPropOf c schematic text) (λ p. Ok p) r
 
 -- the lemma that is begun
-unfoldable pub lemma_of : ContextSeen → Option Label → Inner → Result Lemma Kind
-lemma_of c label text = prop_of c label text >>= (λ p. Ok (record { line = text.line; name = label_name label; attributes = label_attributes label; goal = p }))
+abbrev pub IsLemmaOf : ContextSeen → Bool → Option Label → Inner → Result Lemma Kind → Type 0
+IsLemmaOf c schematic label text r = Then (IsGoalOf c schematic label text) (λ p. Ok (record { line = text.line; name = label_name label; attributes = label_attributes label; goal = p })) r
 
 -- a lemma changes nothing until it is stored
-unfoldable pub with_goal : ContextSeen → Option Label → Inner → Result ContextSeen Kind
-with_goal c label text = prop_of c label text >>= (λ p. Ok c)
+abbrev pub WithGoal : ContextSeen → Bool → Option Label → Inner → Result ContextSeen Kind → Type 0
+WithGoal c schematic label text r = Then (IsGoalOf c schematic label text) (λ p. Ok c) r
 
 -- ---- all commands
--- The next context; the commands of a proof have none.
-unfoldable pub applied : ContextSeen → Command → Result ContextSeen Kind
-applied c (command.Typedecl line xs x) = with_type c x (length xs)
-applied c (command.Judgment line x text) = with_judgment c x text
-applied c (command.Consts line ks) = with_consts c ks
-applied c (command.Axiomatization line axioms) = with_axiomatization c axioms
-applied c (command.Lemma line label text) = with_goal c label text
-applied c (command.SchematicGoal line label text) = with_goal c label text
-applied c (command.Lemmas line label xs) = with_lemmas c label xs
-applied c (command.Declare line ds) = with_declarations c ds
-applied c (command.DeclareOption line setting) = with_option c setting
-applied c (command.Wrapper line safe before x m) = with_wrapper c (method_facts m)
-applied c (command.Apply line m) = Err kind.NoProof
-applied c (command.By line m) = Err kind.NoProof
-applied c (command.Done line) = Err kind.NoProof
-applied c (command.Back line) = Err kind.NoProof
-applied c (command.Oops line) = Err kind.NoProof
-applied c (command.Print line count) = Err kind.NoProof
+-- The next context or the first refusal; the commands of a proof have none.
+unfoldable pub Applied : ContextSeen → Command → Result ContextSeen Kind → Type 0
+Applied c (command.Typedecl line xs x) r = with_type c x (length xs) ≡ r
+Applied c (command.Judgment line x text) r = WithJudgment c x text r
+Applied c (command.Consts line ks) r = WithConstants c ks r
+Applied c (command.Axiomatization line axioms) r = WithAxiomatization c axioms r
+Applied c (command.Lemma line label text) r = WithGoal c false label text r
+Applied c (command.SchematicGoal line label text) r = WithGoal c true label text r
+Applied c (command.Lemmas line label xs) r = with_lemmas c label xs ≡ r
+Applied c (command.Declare line ds) r = with_declarations c ds ≡ r
+Applied c (command.DeclareOption line setting) r = with_option c setting ≡ r
+Applied c (command.Wrapper line safe before x m) r = with_wrapper c (method_facts m) ≡ r
+Applied c (command.Apply line m) r = Err kind.NoProof ≡ r
+Applied c (command.By line m) r = Err kind.NoProof ≡ r
+Applied c (command.Done line) r = Err kind.NoProof ≡ r
+Applied c (command.Back line) r = Err kind.NoProof ≡ r
+Applied c (command.Oops line) r = Err kind.NoProof ≡ r
+Applied c (command.Print line count) r = Err kind.NoProof ≡ r
 
 -- the line of a command's first word
 abbrev pub line_of : Command → ℕ
@@ -284,5 +273,5 @@ line_of (command.Print line count) = line
 
 -- The context that is left is the next one. A refusal, want of memory aside, is the first one, at the command's line, and leaves the context as it was.
 abbrev pub Applies : Command → ContextSeen → Result (Unit {0}) Refused → ContextSeen → Type 0
-Applies command old (Ok done) new = applied old command ≡ Ok new
-Applies command old (Err refused) new = (new ≡ old) × (refused.kind ≢ kind.Memory → (refused.line ≡ line_of command) × (applied old command ≡ Err refused.kind))
+Applies command old (Ok done) new = Applied old command (Ok new)
+Applies command old (Err refused) new = (new ≡ old) × (refused.kind ≢ kind.Memory → (refused.line ≡ line_of command) × Applied old command (Err refused.kind))

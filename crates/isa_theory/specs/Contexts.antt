@@ -2,27 +2,26 @@
 -- Source: theory contexts of the Isabelle/Isar Reference Manual, chapter "Specifications".
 use Rattle.std.specs.Prelude.{refl, ℕ, Bool, List, [], Option, Some, None}
 use Rattle.std.specs.Map.{lookup}
-use Rattle.std.specs.Coded.{Coded, code_by, coded×, coded_list, coded_option, coded_ℕ, coded_bool}
-use Rattle.isa_terms.specs.Codes.{coded_ty}
-use Rattle.isa_terms.specs.Types.{Ty}
 use Rattle.isa_terms.specs.Equal.{name_eq}
+use Rattle.std.specs.Coded.{Coded, code_by, coded×, coded_list, coded_option, coded_ℕ, coded_bool}
 use Rattle.isa_kernel.specs.Theorem.{Theorem, theorem_code}
 use Rattle.isa_kernel.specs.DeclarationCodes.{coded_declaration}
+use Rattle.isa_outer.specs.declared.command.Attribute.{Attribute}
+use Rattle.isa_outer.specs.contracts.command.Attribute as attribute_row
+use Rattle.isa_syntax.specs.contracts.syntax.Syntax as syntax_row
 use Rattle.isa_kernel.specs.Logics.{no_roles}
 use Rattle.isa_kernel.specs.declared.declarations.Declaration.{Declaration}
 use Rattle.isa_kernel.specs.declared.logic.Logic.{Logic}
-use Rattle.isa_outer.specs.declared.command.Attribute.{Attribute}
-use Rattle.isa_outer.specs.contracts.command.Attribute as attribute_row
-use Rattle.isa_texts.specs.declared.signature.Judgment.{Judgment}
-use Rattle.isa_texts.specs.Signatures.{SignatureSeen}
+use Rattle.isa_syntax.specs.Syntaxes.{SyntaxSeen, pure_syntax}
 use Rattle.isa_theory.specs.declared.declared.Declared.{Declared}
 use Rattle.isa_theory.specs.declared.options.Options.{Options}
 use Rattle.isa_theory.specs.Options.{default_options}
 
 pub record ContextSeen : Type 0 where
-  -- the types, constants and axioms, and the judgment
+  -- the types, constants and axioms
   pub theory : List Declaration
-  pub judgment : Option Judgment
+  -- what texts are read under: types, constants, notations and the judgment
+  pub syntax : SyntaxSeen
   -- the facts in their order, each a list of theorems under a name
   pub facts : List (List ℕ × List Theorem)
   -- the theorems with attributes in the order of their declarations, and the facts with a role
@@ -32,9 +31,6 @@ pub record ContextSeen : Type 0 where
   pub options : Options
   -- the lemmas closed so far, with and without a name, each cited by its place
   pub lemmas : List Theorem
-
-abbrev pub judgment_code : Coded Judgment
-judgment_code = code_by (List ℕ × Ty) (coded× (coded_list coded_ℕ) coded_ty) (λ j. (j.name, j.typ)) (λ p. record { name = p.0; typ = p.1 }) (λ _. refl)
 
 abbrev theorems_code : Coded (List Theorem)
 theorems_code = coded_list theorem_code
@@ -60,25 +56,24 @@ abbrev facts_code : Coded (List (List ℕ × List Theorem))
 facts_code = coded_list (coded× (coded_list coded_ℕ) theorems_code)
 
 abbrev pub context_code : Coded ContextSeen
-context_code = code_by (List Declaration × (Option Judgment × (List (List ℕ × List Theorem) × (List Declared × (Logic × (Options × List Theorem))))))
-    (coded× (coded_list coded_declaration) (coded× (coded_option judgment_code) (coded× facts_code (coded× (coded_list declared_code) (coded× logic_code (coded× options_code theorems_code))))))
-    (λ c. (c.theory, (c.judgment, (c.facts, (c.declarations, (c.logic, (c.options, c.lemmas)))))))
-    (λ p. record { theory = p.0; judgment = p.1.0; facts = p.1.1.0; declarations = p.1.1.1.0; logic = p.1.1.1.1.0; options = p.1.1.1.1.1.0; lemmas = p.1.1.1.1.1.1 })
+context_code = code_by (List Declaration × (SyntaxSeen × (List (List ℕ × List Theorem) × (List Declared × (Logic × (Options × List Theorem))))))
+    (coded× (coded_list coded_declaration) (coded× syntax_row.the_row.coded (coded× facts_code (coded× (coded_list declared_code) (coded× logic_code (coded× options_code theorems_code))))))
+    (λ c. (c.theory, (c.syntax, (c.facts, (c.declarations, (c.logic, (c.options, c.lemmas)))))))
+    (λ p. record { theory = p.0; syntax = p.1.0; facts = p.1.1.0; declarations = p.1.1.1.0; logic = p.1.1.1.1.0; options = p.1.1.1.1.1.0; lemmas = p.1.1.1.1.1.1 })
     (λ _. refl)
 
 -- where nothing is declared yet
 abbrev pub empty_context : ContextSeen
-empty_context = record { theory = []; judgment = None; facts = []; declarations = []; logic = no_roles; options = default_options; lemmas = [] }
+empty_context = record { theory = []; syntax = pure_syntax; facts = []; declarations = []; logic = no_roles; options = default_options; lemmas = [] }
 
 -- the theorems of that name
 abbrev pub fact_of : ContextSeen → List ℕ → Option (List Theorem)
 fact_of c x = lookup (name_eq x) c.facts
 
--- the name of the judgment
-abbrev pub judgment_name : Option Judgment → List ℕ
-judgment_name None = []
-judgment_name (Some j) = j.name
+-- the name of the judgment, the empty one where none is declared
+abbrev pub name_or_none : Option (List ℕ) → List ℕ
+name_or_none None = []
+name_or_none (Some j) = j
 
--- what texts are read over
-abbrev pub signature_of : ContextSeen → SignatureSeen
-signature_of c = record { theory = c.theory; judgment = c.judgment }
+abbrev pub judgment_name : ContextSeen → List ℕ
+judgment_name c = name_or_none c.syntax.signature.judgment

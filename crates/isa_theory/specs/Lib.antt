@@ -1,9 +1,12 @@
 pub mod Results
+pub mod Told
 pub mod Options
 pub mod Roles
 pub mod Contexts
 pub mod Reading
+pub mod General
 pub mod MethodFacts
 pub mod Applying
 pub mod Storing
+pub mod Laws
 pub mod Private

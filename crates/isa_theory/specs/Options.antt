@@ -1,6 +1,6 @@
 -- The options, their defaults and their ranges.
 -- Source: Isabelle's options in a theory (the Isabelle/Isar Reference Manual, `declare [[..]]`); the ranges and the defaults are this project's own.
-use Rattle.std.specs.Prelude.{ℕ, Bool, true, false, ◌&&◌, nat_le, Result, Ok, Err, if◌then◌else◌}
+use Rattle.std.specs.Prelude.{Bool, false, ◌&&◌, nat_le, Result, Ok, Err, if◌then◌else◌}
 use Rattle.isa_outer.specs.declared.refusal.Kind.{Kind}
 use Rattle.isa_outer.specs.declared.refusal.Kind.TheVariants as kind
 use Rattle.isa_outer.specs.declared.command.Setting.{Setting}

@@ -1,6 +1,6 @@
 -- What facts play a role for the logic: the forms of the roles, and the facts that have them.
 -- Source: the object logic's rules that Isabelle's simplifier and classical reasoner are set up with (the Isabelle/Isar Reference Manual, "Generic tools and packages"); the roles by name are this project's own.
-use Rattle.std.specs.Prelude.{ℕ, List, [], ◌∷◌, ◌++◌, Bool, true, false, ◌&&◌, ◌||◌, not, Option, Some, None, is_some, codes, if◌then◌else◌}
+use Rattle.std.specs.Prelude.{ℕ, List, [], ◌∷◌, ◌++◌, Bool, false, ◌&&◌, ◌||◌, not, Option, Some, None, is_some, codes, if◌then◌else◌}
 use Rattle.isa_terms.specs.Terms.{Tm, Const, App}
 use Rattle.isa_terms.specs.Equal.{name_eq, tm_eq}
 use Rattle.isa_terms.specs.Pattern.{is_pattern, is_unknown}

@@ -1,9 +1,6 @@
 -- A proved lemma as a fact.
 -- Source: the Isabelle/Isar Reference Manual, chapter "Proofs": the variables of a lemma are fixed in its proof, and unknowns in its theorem.
 use Rattle.std.specs.Prelude.{◌≡◌, ◌≢◌, ℕ, List, [], ◌∷◌, ◌++◌, length, Option, Some, None, Result, Ok, Err}
-use Rattle.isa_terms.specs.Types.{Ty, Tys, TyCon, TyFixed, TyUnknown, NoTys, MoreTys}
-use Rattle.isa_terms.specs.Terms.{Tm, Const, Free, Unknown, Bound, Abs, App}
-use Rattle.isa_terms.specs.Generalize.{gen_tm}
 use Rattle.isa_kernel.specs.Theorem.{Theorem}
 use Rattle.isa_kernel.specs.Citing.{cited}
 use Rattle.isa_outer.specs.declared.command.Attribute.{Attribute}
@@ -12,32 +9,13 @@ use Rattle.isa_outer.specs.declared.refusal.Kind.TheVariants as kind
 use Rattle.isa_outer.specs.declared.refusal.Refused.{Refused}
 use Rattle.isa_theory.specs.declared.lemma.Lemma.{Lemma}
 use Rattle.isa_theory.specs.Contexts.{ContextSeen, fact_of}
+use Rattle.isa_theory.specs.General.{general_prop}
 use Rattle.isa_theory.specs.Applying.{with_fact, with_attributes}
 use Rattle.isa_theory.specs.Results.{◌>>=◌}
 
--- the names of the type variables
-abbrev mutual
-  pub type_names : Ty → List (List ℕ)
-  type_names (TyCon x Ts) = types_names Ts
-  type_names (TyFixed x) = x ∷ []
-  type_names (TyUnknown x i) = []
-
-  pub types_names : Tys → List (List ℕ)
-  types_names NoTys = []
-  types_names (MoreTys T Ts) = type_names T ++ types_names Ts
-
--- the names of the free variables and the type variables
-abbrev pub variable_names : Tm → List (List ℕ)
-variable_names (Const x T) = type_names T
-variable_names (Free x T) = x ∷ type_names T
-variable_names (Unknown x i T) = type_names T
-variable_names (Bound i) = []
-variable_names (Abs x T b) = type_names T ++ variable_names b
-variable_names (App f a) = variable_names f ++ variable_names a
-
 -- the theorem with unknowns for its variables
 abbrev pub general_of : Theorem → Theorem
-general_of th = record { hyps = th.hyps; prop = gen_tm (variable_names th.prop) th.prop; base = th.base }
+general_of th = record { hyps = th.hyps; prop = general_prop th.prop; base = th.base }
 
 -- the context with the theorem under the name, where there is one
 abbrev pub with_named : ContextSeen → Option (List ℕ) → Theorem → ContextSeen

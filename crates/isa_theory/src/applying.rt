@@ -1,51 +1,23 @@
 //! What each command does to the context.
 ghost use Rattle.std.specs.Prelude.{◌≡◌, Ok, IfOk};
 ghost use Rattle.std.specs.Option.{option_copied};
-ghost use Rattle.isa_theory.specs.Applying.{all_known, with_new_constant, with_constants, have_notation, with_consts, with_judgment, with_axioms, with_labels, with_axiomatization, with_lemmas, declared_facts, with_each_declared, with_declarations, with_wrapper, new_label, label_name, label_attributes, has_attributes, prop_of, goal_of, lemma_of, with_goal, applied, line_of, Applies, is_some_list};
+ghost use Rattle.isa_theory.specs.Applying.{all_known, constant_of, WithNewConstant, WithConstants, new_judgment, judgment_of, WithJudgment, WithAxiom, WithAxioms, with_labels, WithAxiomatization, with_lemmas, declared_facts, with_each_declared, with_declarations, with_wrapper, new_label, label_name, label_attributes, IsGoalOf, IsLemmaOf, WithGoal, Applied, line_of, Applies};
 ghost use Rattle.isa_theory.specs.MethodFacts.{method_facts};
-ghost use Rattle.isa_theory.specs.Private.Growing.{Grows, GrowsIfRefused, Becomes};
+ghost use Rattle.isa_theory.specs.Private.Growing.{Grows, GrowsIfRefused, Becomes, MayBecome};
 ghost use Rattle.isa_theory.specs.Results.{Answers};
+ghost use Rattle.isa_theory.specs.Told.{May};
 
 use crate::context::Context;
-use crate::kinds::{built, new_name};
+use crate::general::general_type;
+use crate::kinds::new_name;
 use crate::lemma::Lemma;
 use isa_kernel::prop_type;
 use isa_outer::{
     Attribute, Attributes, Axiom, Command, Constant, Declaration, Inner, Kind, Label, Method,
     Refused, Sort,
 };
-use isa_terms::{Name, Names, Term, same_typ, split_function};
-use isa_texts::{Judgment, Variables};
+use isa_terms::{Name, Names, Term, Typ, same_typ, split_function};
 use std::alloc::{AllocError, Global};
-
-/// Whether there are attributes.
-fn are_some(attributes: &Attributes) -> bool
-    ensures { result ≡ is_some_list attributes.now }
-{
-    !attributes.as_slice().is_empty()
-}
-
-/// Whether one of the constants has a notation.
-fn have_notation(constants: &[Constant]) -> bool
-    ensures { result ≡ have_notation constants.now }
-{
-    for constant in constants {
-        if constant.notation.is_some() {
-            return true;
-        }
-    }
-    false
-}
-
-/// Whether a lemma has attributes.
-fn has_attributes(label: Option<&Label>) -> bool
-    ensures { result ≡ has_attributes (option_copied label.entry) }
-{
-    match label {
-        Some(label) => are_some(&label.attributes),
-        None => false,
-    }
-}
 
 /// The name of a lemma, where it has one.
 fn label_name(label: Option<&Label>) -> Result<Option<Name>, AllocError>
@@ -79,63 +51,86 @@ fn copy_attributes(alloc: Global, attributes: &[Attribute]) -> Result<Attributes
 }
 
 impl Context {
-    #[tactic(auto, unfolding(crate::specs::Applying::with_new_constant))]
-    fn declare_new_constant(&mut self, alloc: Global, name: &Name, text: &Inner) -> Result<(), Kind>
-        ensures becomes { Becomes result self.new (with_new_constant self.old name.now text.now) }
+    /// Declares a constant of the type of its text, with its notation.
+    #[tactic(auto, unfolding(crate::specs::Applying::constant_of))]
+    fn declare_typed(&mut self, alloc: Global, constant: &Constant, typ: &Typ) -> Result<(), Kind>
+        ensures becomes { Becomes result self.new (constant_of self.old constant.now typ.now) }
         ensures grows { Grows self.old self.new }
     {
-        self.new_constant(name)?;
-        self.declare_typed(alloc, name, text)?;
-        Ok(())
+        let typ = general_type(alloc, typ)?;
+        self.declare_constant(alloc, &constant.name, &typ)?;
+        self.declare_notation(&constant.name, &constant.notation)
+    }
+
+    fn declare_new_constant(&mut self, alloc: Global, constant: &Constant) -> Result<(), Kind>
+        ensures becomes { MayBecome result self.new (WithNewConstant self.old constant.now) }
+        ensures grows { Grows self.old self.new }
+    {
+        self.new_constant(&constant.name)?;
+        let typ = self.read_type(alloc, &constant.typ)?;
+        self.declare_typed(alloc, constant, &typ)
     }
 
     fn declare_constants(&mut self, alloc: Global, constants: &[Constant]) -> Result<(), Kind>
-        ensures becomes { Becomes result self.new (with_constants self.old constants.now) }
+        ensures becomes { MayBecome result self.new (WithConstants self.old constants.now) }
         ensures grows { Grows self.old self.new }
     {
         for constant in constants {
-            self.declare_new_constant(alloc, &constant.name, &constant.typ)?;
+            self.declare_new_constant(alloc, constant)?;
         }
         Ok(())
     }
 
-    #[tactic(auto, unfolding(crate::specs::Applying::with_consts))]
-    fn declare_consts(&mut self, alloc: Global, constants: &[Constant]) -> Result<(), Kind>
-        ensures becomes { Becomes result self.new (with_consts self.old constants.now) }
-        ensures grows { Grows self.old self.new }
-    {
-        self.declare_constants(alloc, constants)?;
-        built(have_notation(constants))
-    }
-
-    /// The judgment comes once, and its type is `T => prop`.
-    #[tactic(auto, unfolding(crate::specs::Applying::with_judgment))]
-    fn declare_judgment(&mut self, alloc: Global, name: &Name, text: &Inner) -> Result<(), Kind>
-        ensures becomes { Becomes result self.new (with_judgment self.old name.now text.now) }
-        ensures grows { GrowsIfRefused result self.old self.new }
+    /// The judgment comes once.
+    #[tactic(auto, unfolding(crate::specs::Applying::new_judgment))]
+    fn new_judgment(&self, name: &Name) -> Result<(), Kind>
+        ensures { Answers result (new_judgment self.now name.now) }
     {
         self.new_constant(name)?;
-        new_name(Sort::Judgment, name, self.judgment().is_some())?;
-        let typ = self.declare_typed(alloc, name, text)?;
-        let Some((domain, range)) = split_function(&typ) else {
+        new_name(Sort::Judgment, name, self.has_judgment())
+    }
+
+    /// The type of the judgment is `T => prop`.
+    #[tactic(auto, unfolding(crate::specs::Applying::judgment_of))]
+    fn declare_judging(&mut self, alloc: Global, name: &Name, typ: &Typ) -> Result<(), Kind>
+        ensures becomes { Becomes result self.new (judgment_of self.old name.now typ.now) }
+        ensures grows { Grows self.old self.new }
+    {
+        let Some((_, range)) = split_function(typ) else {
             return Err(Kind::Types);
         };
         if !same_typ(range, &prop_type(alloc)?) {
             return Err(Kind::Types);
         }
-        self.set_judgment(Judgment {
-            name: name.copy()?,
-            typ: domain.copy()?,
-        });
-        Ok(())
+        let typ = general_type(alloc, typ)?;
+        self.declare_constant(alloc, name, &typ)?;
+        self.declare_judgment_name(name)
+    }
+
+    fn declare_judgment(&mut self, alloc: Global, name: &Name, text: &Inner) -> Result<(), Kind>
+        ensures becomes { MayBecome result self.new (WithJudgment self.old name.now text.now) }
+        ensures grows { Grows self.old self.new }
+    {
+        self.new_judgment(name)?;
+        let typ = self.read_type(alloc, text)?;
+        self.declare_judging(alloc, name, &typ)
+    }
+
+    fn declare_axiom_of(&mut self, alloc: Global, axiom: &Axiom) -> Result<(), Kind>
+        ensures becomes { MayBecome result self.new (WithAxiom self.old axiom.now) }
+        ensures grows { Grows self.old self.new }
+    {
+        self.new_fact(&axiom.label.name)?;
+        let prop = self.read_prop(alloc, false, &axiom.prop)?;
+        self.add_axiom(alloc, &axiom.label.name, &prop)
     }
 
     fn add_axioms(&mut self, alloc: Global, axioms: &[Axiom]) -> Result<(), Kind>
-        ensures becomes { Becomes result self.new (with_axioms self.old axioms.now) }
+        ensures becomes { MayBecome result self.new (WithAxioms self.old axioms.now) }
         ensures grows { Grows self.old self.new }
     {
         for axiom in axioms {
-            self.add_axiom(alloc, &axiom.label.name, &axiom.prop)?;
+            self.declare_axiom_of(alloc, axiom)?;
         }
         Ok(())
     }
@@ -151,9 +146,8 @@ impl Context {
         Ok(())
     }
 
-    #[tactic(auto, unfolding(crate::specs::Applying::with_axiomatization))]
     fn axiomatize(&mut self, alloc: Global, axioms: &[Axiom]) -> Result<(), Kind>
-        ensures becomes { Becomes result self.new (with_axiomatization self.old axioms.now) }
+        ensures becomes { MayBecome result self.new (WithAxiomatization self.old axioms.now) }
         ensures grows { Grows self.old self.new }
     {
         self.add_axioms(alloc, axioms)?;
@@ -216,30 +210,30 @@ impl Context {
         }
     }
 
-    #[tactic(auto, unfolding(crate::specs::Applying::prop_of))]
-    fn prop(&self, alloc: Global, label: Option<&Label>, text: &Inner) -> Result<Term, Kind>
-        ensures { Answers result (prop_of self.now (option_copied label.entry) text.now) }
+    fn prop(
+        &self,
+        alloc: Global,
+        schematic: bool,
+        label: Option<&Label>,
+        text: &Inner,
+    ) -> Result<Term, Kind>
+        ensures { May (IsGoalOf self.now schematic (option_copied label.entry) text.now) result }
     {
         self.new_label(label)?;
-        self.read_prop(alloc, Variables::Fixed, text)
+        self.read_prop(alloc, schematic, text)
     }
 
-    /// The proposition that a lemma of a new name and without attributes is about.
-    #[tactic(auto, unfolding(crate::specs::Applying::goal_of))]
-    pub fn goal(&self, alloc: Global, label: Option<&Label>, text: &Inner) -> Result<Term, Kind>
-        ensures { Answers result (goal_of self.now (option_copied label.entry) text.now) }
+    /// The lemma of a new name that is begun with this text, in which unknowns may stand where it is schematic.
+    pub fn lemma(
+        &self,
+        alloc: Global,
+        schematic: bool,
+        label: Option<&Label>,
+        text: &Inner,
+    ) -> Result<Lemma, Kind>
+        ensures { May (IsLemmaOf self.now schematic (option_copied label.entry) text.now) result }
     {
-        let prop = self.prop(alloc, label, text)?;
-        built(has_attributes(label))?;
-        Ok(prop)
-    }
-
-    /// The lemma of a new name that is begun with this text.
-    #[tactic(auto, unfolding(crate::specs::Applying::lemma_of))]
-    pub fn lemma(&self, alloc: Global, label: Option<&Label>, text: &Inner) -> Result<Lemma, Kind>
-        ensures { Answers result (lemma_of self.now (option_copied label.entry) text.now) }
-    {
-        let goal = self.prop(alloc, label, text)?;
+        let goal = self.prop(alloc, schematic, label, text)?;
         Ok(Lemma {
             line: text.line,
             name: label_name(label)?,
@@ -248,18 +242,23 @@ impl Context {
         })
     }
 
-    #[tactic(auto, unfolding(crate::specs::Applying::with_goal))]
-    fn check_goal(&self, alloc: Global, label: Option<&Label>, text: &Inner) -> Result<(), Kind>
-        ensures { Becomes result self.now (with_goal self.now (option_copied label.entry) text.now) }
+    fn check_goal(
+        &self,
+        alloc: Global,
+        schematic: bool,
+        label: Option<&Label>,
+        text: &Inner,
+    ) -> Result<(), Kind>
+        ensures { MayBecome result self.now (WithGoal self.now schematic (option_copied label.entry) text.now) }
     {
-        self.prop(alloc, label, text)?;
+        self.prop(alloc, schematic, label, text)?;
         Ok(())
     }
 
     /// What the command does, or a part of it where it is refused.
-    #[tactic(auto, unfolding(crate::specs::Applying::applied))]
+    #[tactic(auto, unfolding(crate::specs::Applying::Applied))]
     fn take(&mut self, alloc: Global, command: &Command) -> Result<(), Kind>
-        ensures becomes { Becomes result self.new (applied self.old command.now) }
+        ensures becomes { MayBecome result self.new (Applied self.old command.now) }
         ensures grows { GrowsIfRefused result self.old self.new }
     {
         match command {
@@ -269,10 +268,15 @@ impl Context {
                 ..
             } => self.declare_type(alloc, name, variables.len()),
             Command::Judgment { name, typ, .. } => self.declare_judgment(alloc, name, typ),
-            Command::Consts { constants, .. } => self.declare_consts(alloc, constants.as_slice()),
+            Command::Consts { constants, .. } => {
+                self.declare_constants(alloc, constants.as_slice())
+            },
             Command::Axiomatization { axioms, .. } => self.axiomatize(alloc, axioms.as_slice()),
-            Command::Lemma { label, prop, .. } | Command::SchematicGoal { label, prop, .. } => {
-                self.check_goal(alloc, label.as_ref(), prop)
+            Command::Lemma { label, prop, .. } => {
+                self.check_goal(alloc, false, label.as_ref(), prop)
+            }
+            Command::SchematicGoal { label, prop, .. } => {
+                self.check_goal(alloc, true, label.as_ref(), prop)
             }
             Command::Lemmas { label, facts, .. } => self.name_facts(alloc, label, facts),
             Command::Declare { declarations, .. } => {

@@ -1,27 +1,30 @@
 //! What the commands so far declared and proved.
-ghost use Rattle.std.specs.Prelude.{◌≡◌, ◌≤◌, ◌++◌, length, take, Some, None, IfOk, OnOk, OnErr};
+ghost use Rattle.std.specs.Prelude.{◌≡◌, ◌≤◌, ◌++◌, length, take, is_some, Some, None, IfOk, OnOk, OnErr};
 ghost use Rattle.std.specs.Option.{option_copied};
-ghost use Rattle.isa_texts.specs.Signatures.{seen};
-ghost use Rattle.isa_kernel.specs.Theories.{axiom_prop, axiom_refusal};
-ghost use Rattle.isa_kernel.specs.declared.declarations.Declaration.TheVariants.{Axiom};
+ghost use Rattle.isa_kernel.specs.Theories.{type_refusal, constant_refusal, axiom_prop, axiom_refusal};
+ghost use Rattle.isa_kernel.specs.declared.declarations.Declaration.TheVariants.{Constructor, Constant, Axiom};
 ghost use Rattle.isa_outer.specs.declared.refusal.Sort.TheVariants as sort;
-ghost use Rattle.isa_theory.specs.Contexts.{empty_context, fact_of, judgment_name, signature_of};
-ghost use Rattle.isa_theory.specs.Applying.{all_known, new_constant, known_fact, known_facts, new_fact, with_type, with_constant, with_typed, with_fact, declared, axiom_fact, with_axiom, with_option, logic_with, with_attribute};
+ghost use Rattle.isa_syntax.specs.Syntaxes.{with_type as with_syntax_type, with_constant as with_syntax_constant, with_judgment as with_syntax_judgment};
+ghost use Rattle.isa_syntax.specs.Notations.{with_notation as with_syntax_notation};
+ghost use Rattle.isa_syntax.specs.Growing.{undone};
+ghost use Rattle.isa_theory.specs.Contexts.{empty_context, fact_of, judgment_name};
+ghost use Rattle.isa_theory.specs.Applying.{in_syntax, all_known, new_constant, known_fact, known_facts, new_fact, with_type, with_constant, with_notation, with_fact, declared, axiom_fact, axiom_of, with_option, logic_with, with_attribute};
 ghost use Rattle.isa_theory.specs.Storing.{with_closed};
-ghost use Rattle.isa_theory.specs.Private.Growing.{Grows, IsMark, Becomes, BecomesWith};
-ghost use Rattle.isa_theory.specs.Reading.{read_prop};
+ghost use Rattle.isa_theory.specs.Private.Growing.{Grows, IsMark, Becomes};
+ghost use Rattle.isa_theory.specs.Reading.{IsTypeOf, IsPropOf};
 ghost use Rattle.isa_theory.specs.Results.{Answers, AnswersBy};
+ghost use Rattle.isa_theory.specs.Told.{May};
 
 use crate::declared::Declared;
+use crate::general::general_prop;
 use crate::kinds::{kind_of, new_name};
 use crate::options::Options;
-use crate::reading::{read_prop, read_type};
 use crate::roles::{has_form, role_name, with_role};
 use indexmap::IndexMap;
 use isa_kernel::{AxiomFail, Logic, Theory, Thm, Thms, axiom};
-use isa_outer::{Attribute, Inner, Kind, Setting, Sort};
+use isa_outer::{Attribute, Inner, Kind, Notation, Setting, Sort};
+use isa_syntax::{Syntax, read_prop, read_type};
 use isa_terms::{Name, Term, Typ};
-use isa_texts::{Judgment, Signature, Variables};
 use std::alloc::{AllocError, Global};
 use std::marker::Model;
 use std::rc::Rc;
@@ -30,7 +33,7 @@ use std::rc::Rc;
 #[derive(Drop)]
 pub struct Context {
     theory: Theory,
-    judgment: Option<Judgment>,
+    syntax: Syntax,
     facts: IndexMap<Name, Thms>,
     declarations: Vec<Declared>,
     logic: Rc<Logic>,
@@ -45,13 +48,14 @@ impl Model for Context {
 
     ghost coded = { context_code };
 
-    ghost view = { λ c. record { theory = c.theory; judgment = c.judgment; facts = c.facts.entries; declarations = c.declarations.items; logic = c.logic.value; options = c.options; lemmas = c.lemmas.items } };
+    ghost view = { λ c. record { theory = c.theory; syntax = c.syntax; facts = c.facts.entries; declarations = c.declarations.items; logic = c.logic.value; options = c.options; lemmas = c.lemmas.items } };
 }
 
 /// How much there was in a context, and the roles that facts had.
 #[derive(Drop)]
 pub(crate) struct Mark {
     theory: usize,
+    syntax: isa_syntax::Mark,
     facts: usize,
     declarations: usize,
     logic: Rc<Logic>,
@@ -64,7 +68,7 @@ impl Context {
     {
         Ok(Context {
             theory: Theory::new(alloc)?,
-            judgment: None,
+            syntax: Syntax::new(alloc)?,
             facts: IndexMap::new(alloc),
             declarations: Vec::new(alloc),
             logic: Rc::new(alloc, Logic::new(alloc))?,
@@ -80,11 +84,11 @@ impl Context {
         &self.theory
     }
 
-    /// The judgment, where it is declared.
-    pub fn judgment(&self) -> Option<&Judgment>
-        ensures { option_copied result ≡ self.now.judgment }
+    /// What texts are read under: the types, constants, notations and the judgment.
+    pub fn syntax(&self) -> &Syntax
+        ensures { result.now ≡ self.now.syntax }
     {
-        self.judgment.as_ref()
+        &self.syntax
     }
 
     /// The theorems of the fact of that name.
@@ -124,34 +128,31 @@ impl Context {
 
     /// The name of the judgment, the empty one where none is declared.
     pub fn judgment_name(&self, alloc: Global) -> Result<Name, AllocError>
-        ensures { IfOk result (λ name. name ≡ judgment_name self.now.judgment) }
+        ensures { IfOk result (λ name. name ≡ judgment_name self.now) }
     {
-        match &self.judgment {
-            Some(judgment) => judgment.name.copy(),
+        match self.syntax.judgment() {
+            Some(name) => name.copy(),
             None => Ok(Name::new(alloc)),
         }
     }
 
-    /// What texts are read over.
-    fn signature(&self) -> Signature<'_>
-        ensures { seen result ≡ signature_of self.now }
+    /// The type of a text.
+    pub(crate) fn read_type(&self, alloc: Global, text: &Inner) -> Result<Typ, Kind>
+        ensures { May (IsTypeOf self.now text.now) result }
     {
-        Signature {
-            theory: &self.theory,
-            judgment: self.judgment.as_ref(),
-        }
+        read_type(alloc, &self.syntax, false, text.bytes.as_slice())
     }
 
-    /// The proposition of a text.
+    /// The proposition of a text, in which unknowns may stand where it is schematic.
     pub(crate) fn read_prop(
         &self,
         alloc: Global,
-        variables: Variables,
+        schematic: bool,
         text: &Inner,
     ) -> Result<Term, Kind>
-        ensures { Answers result (read_prop (signature_of self.now) variables text.now) }
+        ensures { May (IsPropOf self.now schematic text.now) result }
     {
-        read_prop(alloc, &self.signature(), variables, text)
+        read_prop(alloc, &self.syntax, schematic, text.bytes.as_slice())
     }
 
     /// Refuses the name of a fact that is there.
@@ -202,6 +203,23 @@ impl Context {
         Ok(all)
     }
 
+    fn declare_theory_type(&mut self, alloc: Global, name: &Name, arity: u32) -> Result<(), Kind>
+        ensures becomes { Becomes result self.new (declared sort.Type (Constructor name.now arity) (type_refusal self.old.theory name.now) self.old) }
+        ensures grows { Grows self.old self.new }
+    {
+        match self.theory.declare_type(alloc, name, arity) {
+            Ok(()) => Ok(()),
+            Err(fail) => Err(kind_of(Sort::Type, fail)),
+        }
+    }
+
+    fn declare_syntax_type(&mut self, name: &Name, arity: usize) -> Result<(), Kind>
+        ensures becomes { Becomes result self.new (in_syntax self.old (with_syntax_type self.old.syntax name.now arity)) }
+        ensures grows { Grows self.old self.new }
+    {
+        self.syntax.declare_type(name, arity)
+    }
+
     /// Declares a type constructor with that number of arguments.
     #[tactic(auto, unfolding(crate::specs::Applying::with_type))]
     pub(crate) fn declare_type(
@@ -214,18 +232,15 @@ impl Context {
         ensures grows { Grows self.old self.new }
     {
         // Memory holds no such list of arguments.
-        let Ok(arity) = u32::try_from(arity) else {
+        let Ok(count) = u32::try_from(arity) else {
             return Err(Kind::Memory);
         };
-        match self.theory.declare_type(alloc, name, arity) {
-            Ok(()) => Ok(()),
-            Err(fail) => Err(kind_of(Sort::Type, fail)),
-        }
+        self.declare_theory_type(alloc, name, count)?;
+        self.declare_syntax_type(name, arity)
     }
 
-    #[tactic(auto, unfolding(crate::specs::Applying::with_constant))]
-    fn declare_constant(&mut self, alloc: Global, name: &Name, typ: &Typ) -> Result<(), Kind>
-        ensures becomes { Becomes result self.new (with_constant self.old name.now typ.now) }
+    fn declare_theory_constant(&mut self, alloc: Global, name: &Name, typ: &Typ) -> Result<(), Kind>
+        ensures becomes { Becomes result self.new (declared sort.Constant (Constant name.now typ.now) (constant_refusal self.old.theory name.now typ.now) self.old) }
         ensures grows { Grows self.old self.new }
     {
         match self.theory.declare_const(alloc, name, typ) {
@@ -234,27 +249,64 @@ impl Context {
         }
     }
 
-    /// Declares a constant of the type of a text.
-    #[tactic(auto, unfolding(crate::specs::Applying::with_typed))]
-    pub(crate) fn declare_typed(
+    fn declare_syntax_constant(&mut self, name: &Name, typ: &Typ) -> Result<(), Kind>
+        ensures becomes { Becomes result self.new (in_syntax self.old (with_syntax_constant self.old.syntax name.now typ.now)) }
+        ensures grows { Grows self.old self.new }
+    {
+        self.syntax.declare_constant(name, typ)
+    }
+
+    /// Declares a constant of a general type.
+    #[tactic(auto, unfolding(crate::specs::Applying::with_constant))]
+    pub(crate) fn declare_constant(
         &mut self,
         alloc: Global,
         name: &Name,
-        text: &Inner,
-    ) -> Result<Typ, Kind>
-        ensures becomes { BecomesWith result self.new (with_typed self.old name.now text.now) }
+        typ: &Typ,
+    ) -> Result<(), Kind>
+        ensures becomes { Becomes result self.new (with_constant self.old name.now typ.now) }
         ensures grows { Grows self.old self.new }
     {
-        let typ = read_type(alloc, text)?;
-        self.declare_constant(alloc, name, &typ)?;
-        Ok(typ)
+        self.declare_theory_constant(alloc, name, typ)?;
+        self.declare_syntax_constant(name, typ)
+    }
+
+    fn declare_syntax_notation(&mut self, name: &Name, notation: &Notation) -> Result<(), Kind>
+        ensures becomes { Becomes result self.new (in_syntax self.old (with_syntax_notation self.old.syntax name.now notation.now)) }
+        ensures grows { Grows self.old self.new }
+    {
+        self.syntax.declare_notation(name, notation)
+    }
+
+    /// Declares a constant's notation, where it has one.
+    #[tactic(auto, unfolding(crate::specs::Applying::with_notation))]
+    pub(crate) fn declare_notation(
+        &mut self,
+        name: &Name,
+        notation: &Option<Notation>,
+    ) -> Result<(), Kind>
+        ensures becomes { Becomes result self.new (with_notation self.old name.now notation.now) }
+        ensures grows { Grows self.old self.new }
+    {
+        match notation {
+            Some(notation) => self.declare_syntax_notation(name, notation),
+            None => Ok(()),
+        }
     }
 
     /// Puts the judgment in force.
-    pub(crate) fn set_judgment(&mut self, judgment: Judgment)
-        ensures { self.new ≡ record self.old { judgment = Some judgment } }
+    pub(crate) fn declare_judgment_name(&mut self, name: &Name) -> Result<(), Kind>
+        ensures becomes { Becomes result self.new (in_syntax self.old (with_syntax_judgment self.old.syntax name.now)) }
+        ensures grows { Grows self.old self.new }
     {
-        self.judgment = Some(judgment);
+        self.syntax.declare_judgment(name)
+    }
+
+    /// Whether there is a judgment.
+    pub(crate) fn has_judgment(&self) -> bool
+        ensures { result ≡ is_some self.now.syntax.signature.judgment }
+    {
+        self.syntax.judgment().is_some()
     }
 
     fn declare_axiom(&mut self, alloc: Global, name: &Name, prop: &Term) -> Result<(), Kind>
@@ -292,14 +344,14 @@ impl Context {
         }
     }
 
-    /// Adds an axiom by its text.
-    #[tactic(auto, unfolding(crate::specs::Applying::with_axiom))]
-    pub(crate) fn add_axiom(&mut self, alloc: Global, name: &Name, text: &Inner) -> Result<(), Kind>
-        ensures becomes { Becomes result self.new (with_axiom self.old name.now text.now) }
+    /// Declares the axiom of a proposition, whose variables become unknowns, and makes it a fact.
+    #[tactic(auto, unfolding(crate::specs::Applying::axiom_of))]
+    pub(crate) fn add_axiom(&mut self, alloc: Global, name: &Name, prop: &Term) -> Result<(), Kind>
+        requires { fact_of self.old name.now ≡ None }
+        ensures becomes { Becomes result self.new (axiom_of self.old name.now prop.now) }
         ensures grows { Grows self.old self.new }
     {
-        self.new_fact(name)?;
-        let prop = self.read_prop(alloc, Variables::Unknown, text)?;
+        let prop = general_prop(alloc, prop)?;
         self.declare_axiom(alloc, name, &prop)?;
         let mut thms = Thms::new(alloc);
         thms.push(self.axiom(alloc, name)?)?;
@@ -320,7 +372,7 @@ impl Context {
     /// The facts with a role after an attribute.
     #[tactic(auto, unfolding(crate::specs::Applying::logic_with))]
     fn logic_with(&self, alloc: Global, attribute: Attribute, thm: &Thm) -> Result<Rc<Logic>, Kind>
-        ensures { AnswersBy (λ l. l.value) result (logic_with (judgment_name self.now.judgment) self.now.logic attribute thm.now) }
+        ensures { AnswersBy (λ l. l.value) result (logic_with (judgment_name self.now) self.now.logic attribute thm.now) }
     {
         let Attribute::Logic(role) = attribute else {
             return Ok(self.logic.clone()?);
@@ -372,6 +424,7 @@ impl Context {
     {
         Ok(Mark {
             theory: self.theory.mark(),
+            syntax: self.syntax.mark(),
             facts: self.facts.len(),
             declarations: self.declarations.len(),
             logic: self.logic.clone()?,
@@ -381,9 +434,10 @@ impl Context {
     /// Takes out what came behind the mark, and puts its roles in force.
     pub(crate) fn undo_to(&mut self, mark: Mark)
         requires theory { mark.theory ≤ length self.old.theory }
-        ensures { self.new ≡ record self.old { theory = take mark.theory self.old.theory; facts = take mark.facts self.old.facts; declarations = take mark.declarations self.old.declarations; logic = mark.logic.value } }
+        ensures { self.new ≡ record self.old { theory = take mark.theory self.old.theory; syntax = undone mark.syntax self.old.syntax; facts = take mark.facts self.old.facts; declarations = take mark.declarations self.old.declarations; logic = mark.logic.value } }
     {
         self.theory.undo_to(mark.theory);
+        self.syntax.undo_to(mark.syntax);
         self.facts.truncate(mark.facts);
         self.declarations.truncate(mark.declarations);
         self.logic = mark.logic;

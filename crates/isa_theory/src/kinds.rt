@@ -1,11 +1,9 @@
 //! Refusals of declarations.
 ghost use Rattle.std.specs.Prelude.{◌≡◌};
-ghost use Rattle.isa_theory.specs.Applying.{kind_of, new_name, unless_built};
-ghost use Rattle.isa_theory.specs.Private.Growing.{unread};
+ghost use Rattle.isa_theory.specs.Applying.{kind_of, new_name};
 ghost use Rattle.isa_theory.specs.Results.{Answers};
 
 use isa_kernel::TheoryFail;
-use isa_lines::SyntaxError;
 use isa_outer::{Kind, Sort};
 use isa_terms::Name;
 
@@ -22,16 +20,6 @@ pub fn kind_of(sort: Sort, fail: TheoryFail) -> Kind
     }
 }
 
-/// Why a quoted text is not read.
-pub fn unread(error: SyntaxError) -> Kind
-    ensures { result ≡ unread error }
-{
-    match error {
-        SyntaxError::NotBuilt => Kind::NotBuilt,
-        SyntaxError::Memory => Kind::Memory,
-    }
-}
-
 /// Refuses a name of this sort that is there.
 pub fn new_name(sort: Sort, name: &Name, there: bool) -> Result<(), Kind>
     ensures { Answers result (new_name sort name.now there) }
@@ -41,11 +29,4 @@ pub fn new_name(sort: Sort, name: &Name, there: bool) -> Result<(), Kind>
     } else {
         Ok(())
     }
-}
-
-/// Refuses what is not built yet.
-pub fn built(unbuilt: bool) -> Result<(), Kind>
-    ensures { Answers result (unless_built unbuilt tt) }
-{
-    if unbuilt { Err(Kind::NotBuilt) } else { Ok(()) }
 }

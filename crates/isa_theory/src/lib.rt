@@ -5,19 +5,18 @@ mod applying;
 mod attributes;
 mod context;
 mod declared;
+mod general;
 mod kinds;
+mod laws;
 mod lemma;
 mod method_facts;
 mod options;
-mod reading;
 mod roles;
 mod storing;
-#[cfg(test)]
-mod tests;
 
 pub use applying::line_of;
 pub use context::Context;
 pub use declared::Declared;
-pub use isa_texts::Judgment;
+pub use laws::{commands_have_one_answer, texts_begin_one_lemma};
 pub use lemma::Lemma;
 pub use options::Options;

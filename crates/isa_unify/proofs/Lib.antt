@@ -13,6 +13,8 @@ pub mod Loops
 pub mod ClashLaws
 pub mod Liftings
 pub mod Lists
+pub mod Mapped
+pub mod Becoming
 pub mod NoTypes
 pub mod Unvisited
 pub mod LateLists

@@ -1,9 +1,10 @@
 -- Parts that a walk need not enter, since their nodes know that nothing is to be found there.
-use Rattle.std.proofs.Common.{◌≡◌, ℕ, ◌+◌, ◌-◌, ◌<◌, ◌≤◌, max, List, [], ◌∷◌, ◌++◌, Bool, true, false, cond, ◌||◌, nat_eq, nat_lt, refl, sym, ap, ◌∙◌, arith}
+use Rattle.std.proofs.Common.{◌≡◌, ℕ, ◌+◌, ◌-◌, ◌<◌, ◌≤◌, max, List, [], ◌∷◌, ◌++◌, Bool, true, false, cond, ◌||◌, nat_eq, nat_lt, Option, Some, None, refl, sym, ap, ◌∙◌, arith}
 use Rattle.std.proofs.lemmas.Bool.Decides.{nat_tests}
 use Rattle.isa_terms.specs.Types.{Ty, Tys, TyCon, TyFixed, TyUnknown, NoTys, MoreTys}
 use Rattle.isa_terms.specs.Terms.{Tm, Const, Free, Unknown, Bound, Abs, App}
 use Rattle.isa_terms.specs.Facts.{ty_open, tys_open, tm_open, has_unknown, loose_end}
+use Rattle.isa_terms.specs.Instance.{Instance}
 use Rattle.isa_terms.specs.declared.inst.TypeEntry.{TypeEntry}
 use Rattle.isa_terms.specs.declared.inst.TermEntry.{TermEntry}
 use Rattle.isa_unify.specs.Calls.{past}
@@ -71,6 +72,23 @@ rigid (Unknown x i T) h = absurd (cc)
 rigid (Bound i) h = refl
 rigid (Abs x T b) h = refl
 rigid (App f a) h = rigid f (neither_true (has_unknown f) (has_unknown a) h).0
+
+-- no unknown at the head is to be solved
+no_flexible : (t : Tm) → is_flexible t ≡ false → matching.flexible t ≡ None
+no_flexible (Const x T) h = refl
+no_flexible (Free x T) h = refl
+no_flexible (Unknown x i T) h = absurd (cc)
+no_flexible (Bound i) h = refl
+no_flexible (Abs x T b) h = refl
+no_flexible (App f a) h = ap (λ o. matching.applied o a) (no_flexible f h)
+
+pub rigid_stays : (s : Instance) (t : Tm) → is_flexible t ≡ false → matching.to_solve s t ≡ None
+rigid_stays s (Const x T) h = refl
+rigid_stays s (Free x T) h = refl
+rigid_stays s (Unknown x i T) h = absurd (cc)
+rigid_stays s (Bound i) h = refl
+rigid_stays s (Abs x T b) h = refl
+rigid_stays s (App f a) h = ap (matching.unless_fixed s) (no_flexible (App f a) h)
 
 allowed_below : (xs : List ℕ) (d i : ℕ) → i + 1 ≤ d → allowed xs d i ≡ true
 allowed_below xs d i h = let e : nat_lt i d ≡ true = grind (arith, nat_tests) in ap (λ b. cond b true (has_number xs (i - d))) e

@@ -3,6 +3,8 @@ pub mod TypeUnification
 pub mod TypeStacks
 pub mod Matching
 pub mod BinderLists
+pub mod BinderLayers
+pub mod BinderFalls
 pub mod VariableCodes
 pub mod EquationCodes
 pub mod Spines

@@ -1,41 +1,12 @@
-//! The binders round a place of a term.
+//! Abstractions over variables of the binders round a place of a term.
 
-ghost use Rattle.std.specs.Prelude.{◌≡◌, slice_get, option_map, IfOk};
-ghost use Rattle.isa_unify.specs.Matching.{Binder, over, solution};
-ghost use Rattle.isa_unify.specs.BinderLists.{binders_in, binder_of};
+ghost use Rattle.std.specs.Prelude.{◌≡◌, IfOk};
+ghost use Rattle.isa_unify.specs.Matching.{over, solution};
+ghost use Rattle.isa_unify.specs.BinderLists.{binders_in};
 
-use isa_terms::{Name, Term, TermNode, Typ, abstraction};
+use crate::equation::Binders;
+use isa_terms::{Term, TermNode, abstraction};
 use std::alloc::{AllocError, Global};
-
-/// A binder's name and type.
-#[derive(Drop)]
-pub struct Bound<'a> {
-    pub name: &'a Name,
-    pub typ: &'a Typ,
-}
-
-/// The binders round a place, the innermost first.
-#[derive(Drop)]
-pub enum Binders<'a> {
-    Outermost,
-    Under(&'a Name, &'a Typ, &'a Binders<'a>),
-}
-
-/// The binder of the variable with that number.
-fn binder<'a>(binders: &Binders<'a>, number: u32) -> Option<Bound<'a>>
-    ensures { option_map binder_of result ≡ slice_get (binders_in binders.now) number }
-{
-    match binders {
-        Binders::Outermost => None,
-        Binders::Under(name, typ, outer) => {
-            if number == 0 {
-                Some(Bound { name, typ })
-            } else {
-                binder(outer, number - 1)
-            }
-        }
-    }
-}
 
 /// The body of the abstraction of t over the variable `number` of the binders round t.
 #[tactic(auto, using(crate::proofs::Unvisited::over_same))]
@@ -72,9 +43,10 @@ pub fn over(alloc: Global, number: u32, depth: u32, t: &Term) -> Result<Term, Al
 }
 
 /// The abstraction of t over the variables with these numbers, where there are such.
+#[tactic(auto, using(crate::proofs::Mapped::get_mapped))]
 pub fn solution(
     alloc: Global,
-    binders: &Binders<'_>,
+    binders: &Binders,
     args: &[u32],
     t: &Term,
 ) -> Result<Option<Term>, AllocError>
@@ -83,14 +55,14 @@ pub fn solution(
     match args.split_first() {
         None => Ok(Some(t.copy()?)),
         Some((number, rest)) => {
-            let Some(bound) = binder(binders, *number) else {
+            let Some(variable) = binders.get(*number) else {
                 return Ok(None);
             };
             let Some(inner) = solution(alloc, binders, rest, t)? else {
                 return Ok(None);
             };
             let body = over(alloc, *number, 0, &inner)?;
-            Ok(Some(abstraction(alloc, bound.name, bound.typ, body)?))
+            Ok(Some(abstraction(alloc, &variable.name, &variable.typ, body)?))
         }
     }
 }

@@ -1,5 +1,6 @@
 ghost use Rattle.std.specs.Prelude.{◌≡◌, [], ◌∷◌, ◌++◌, slice_get, reverse, IfOk, OnOk, OnErr, IfSome, IfNone};
 ghost use Rattle.std.specs.Option.{option_copied};
+ghost use Rattle.isa_unify.specs.BinderLayers.{variables_of};
 
 use isa_terms::{Name, Term, Typ};
 use std::alloc::{AllocError, Global};
@@ -24,14 +25,23 @@ impl Variable {
     }
 }
 
+/// One layer of binders: the innermost one, and those round it.
+#[cycle(binders)]
+#[derive(Drop)]
+pub enum Layer {
+    Outermost,
+    Under(Variable, Binders),
+}
+
 /// The variables round a place, the innermost first, in a list that its copies share.
+#[cycle(binders)]
 #[derive(Drop)]
 pub struct Binders {
-    items: Rc<Vec<Variable>>,
+    layer: Rc<Layer>,
 }
 
 impl Model for Binders {
-    ghost use Rattle.std.specs.Prelude.{List};
+    ghost use Rattle.std.specs.Prelude.{List, length};
     ghost use Rattle.std.specs.Coded.{coded_list};
     ghost use Rattle.isa_unify.specs.declared.equation.Variable.{Variable};
     ghost use Rattle.isa_unify.specs.VariableCodes.{variable_code};
@@ -40,61 +50,69 @@ impl Model for Binders {
 
     ghost coded = { coded_list variable_code };
 
-    ghost view = { λ a. a.items.value.items };
+    ghost use Rattle.isa_unify.specs.BinderLayers.{variables_of};
+
+    ghost view = { λ a. variables_of a.layer.value };
+
+    ghost size = { length };
+
+    ghost use Rattle.isa_unify.specs.BinderFalls.{layers_fall};
+
+    ghost size_decreases = { λ a h. layers_fall a.layer.value };
 }
 
 impl Binders {
+    fn new(alloc: Global, layer: Layer) -> Result<Binders, AllocError>
+        ensures { IfOk result (λ bs. bs ≡ variables_of layer) }
+    {
+        Ok(Binders {
+            layer: Rc::new(alloc, layer)?,
+        })
+    }
+
     /// No variable.
     pub fn none(alloc: Global) -> Result<Binders, AllocError>
         ensures { IfOk result (λ bs. bs ≡ []) }
     {
-        Ok(Binders {
-            items: Rc::new(alloc, Vec::new(alloc))?,
-        })
+        Binders::new(alloc, Layer::Outermost)
     }
 
-    /// The variables, the innermost first.
-    pub fn of(alloc: Global, variables: Vec<Variable>) -> Result<Binders, AllocError>
-        ensures { IfOk result (λ bs. bs ≡ variables.items) }
+    /// The innermost binder, and those round it.
+    pub fn view(&self) -> &Layer
+        ensures { variables_of result.now ≡ self.now }
     {
-        Ok(Binders {
-            items: Rc::new(alloc, variables)?,
-        })
+        self.layer.as_ref()
     }
 
     pub fn copy(&self) -> Result<Binders, AllocError>
         ensures { IfOk result (λ bs. bs ≡ self.now) }
     {
         Ok(Binders {
-            items: self.items.clone()?,
+            layer: self.layer.clone()?,
         })
-    }
-
-    pub fn as_slice(&self) -> &[Variable]
-        ensures { result.now ≡ self.now }
-    {
-        self.items.as_ref().as_slice()
     }
 
     /// The variable with that number.
     pub fn get(&self, number: u32) -> Option<&Variable>
         ensures { option_copied result ≡ slice_get self.now number }
     {
-        self.as_slice().get(number as usize)
+        match self.view() {
+            Layer::Outermost => None,
+            Layer::Under(variable, outer) => {
+                if number == 0 {
+                    Some(variable)
+                } else {
+                    outer.get(number - 1)
+                }
+            }
+        }
     }
 
-    /// The variables under one more binder.
+    /// The variables under one more binder, which shares them.
     pub fn under(&self, alloc: Global, variable: Variable) -> Result<Binders, AllocError>
         ensures { IfOk result (λ bs. bs ≡ variable ∷ self.now) }
     {
-        let mut items = Vec::new(alloc);
-        items.push(variable)?;
-        for other in self.as_slice() {
-            items.push(other.copy()?)?;
-        }
-        Ok(Binders {
-            items: Rc::new(alloc, items)?,
-        })
+        Binders::new(alloc, Layer::Under(variable, self.copy()?))
     }
 }
 

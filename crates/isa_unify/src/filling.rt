@@ -1,10 +1,11 @@
 //! Terms for unknowns and types for type unknowns, in all that a unification holds.
 
 ghost use Rattle.std.specs.Prelude.{◌≡◌, [], map, IfOk};
+ghost use Rattle.isa_unify.specs.BinderLayers.{variables_of};
 ghost use Rattle.isa_unify.specs.TypeUnification.{entries_under};
 ghost use Rattle.isa_unify.specs.Unification.{filled, filled_equation, filled_entry, retyped, retyped_variable, retyped_equation, retyped_entry, retyped_state};
 
-use crate::equation::{Binders, Equation, Equations, Variable};
+use crate::equation::{Binders, Equation, Equations, Layer, Variable};
 use crate::progress::State;
 use crate::types::typ_under;
 use isa_terms::{Term, TermEntries, TermEntry, TypeEntries, TypeEntry, inst_term, norm};
@@ -62,6 +63,7 @@ fn retyped(alloc: Global, types: &[TypeEntry], t: &Term) -> Result<Term, AllocEr
     inst_term(alloc, types, none.as_slice(), t)
 }
 
+/// The binders with types for type unknowns.
 fn retyped_binders(
     alloc: Global,
     types: &[TypeEntry],
@@ -69,14 +71,17 @@ fn retyped_binders(
 ) -> Result<Binders, AllocError>
     ensures { IfOk result (λ r. r ≡ map (retyped_variable types.now) binders.now) }
 {
-    let mut done = Vec::new(alloc);
-    for variable in binders.as_slice() {
-        done.push(Variable {
-            name: variable.name.copy()?,
-            typ: typ_under(alloc, types, &variable.typ)?,
-        })?;
+    match binders.view() {
+        Layer::Outermost => binders.copy(),
+        Layer::Under(variable, outer) => {
+            let outer = retyped_binders(alloc, types, outer)?;
+            let variable = Variable {
+                name: variable.name.copy()?,
+                typ: typ_under(alloc, types, &variable.typ)?,
+            };
+            outer.under(alloc, variable)
+        }
     }
-    Binders::of(alloc, done)
 }
 
 /// The equation with types for type unknowns.

@@ -14,6 +14,7 @@ mod laws;
 mod matching;
 mod numbers;
 mod parts;
+mod patterns;
 mod places;
 mod progress;
 mod spines;

@@ -1,28 +1,24 @@
 //! Matching of patterns.
 
-ghost use Rattle.std.specs.Prelude.{◌≡◌, ◌++◌, [], ◌∷◌, IfOk, IfSome, IfNone, cond, Some, None, Option, option_map};
+ghost use Rattle.std.specs.Prelude.{◌≡◌, ◌++◌, [], ◌∷◌, IfOk, IfSome, IfNone, IsTrue, false, cond, Some, None, Option, option_map};
 ghost use Rattle.isa_terms.specs.Types.{tys_of};
 ghost use Rattle.isa_terms.specs.Instance.{Instance, find_term};
 ghost use Rattle.isa_terms.specs.Terms.{App, Bound};
 ghost use Rattle.isa_terms.specs.Replace.{raise};
 ghost use Rattle.isa_unify.specs.Matching.{ty_matched, tys_matched, flexible, is_fixed, to_solve, bound_to, solved, typed, matched, closed_type, match_from, match_of, all_from, match_all_of, IsAsked, IsMatch, IsTheMatch, AreAsked, AreMatched, AllMatch, IsSettled, AreAskedFrom, AreMatchedFrom, AllMatchFrom};
 ghost use Rattle.isa_unify.specs.BinderLists.{binders_in, flexible_of};
+ghost use Rattle.isa_unify.specs.Spines.{is_flexible};
 
-use crate::binders::{Binders, solution};
+use crate::binders::solution;
+use crate::equation::{Binders, Variable};
+use crate::numbers::Numbers;
+use crate::patterns::{Pattern, Unknown};
+use crate::spines::is_flexible;
 use isa_terms::{
-    IllTyped, Inst, Name, Term, TermNode, Typ, TypNode, find_term, find_type, inst_typ, raised,
+    IllTyped, Inst, Term, TermNode, Typ, TypNode, find_term, find_type, inst_typ, raised,
     same_term, same_typ, type_of,
 };
 use std::alloc::{AllocError, Global};
-
-/// An unknown with the numbers of the bound variables to which it is applied.
-#[derive(Drop)]
-pub struct Spine<'a> {
-    pub name: &'a Name,
-    pub number: u32,
-    pub typ: &'a Typ,
-    pub args: Vec<u32>,
-}
 
 /// Adds what makes the first type to the second, where that can be had. If not, some of it may have been added.
 #[cycle(types)]
@@ -64,16 +60,17 @@ fn extend_all_types(
 }
 
 /// The term as an unknown applied to bound variables, where it is one.
-fn flexible<'a>(alloc: Global, t: &'a Term) -> Result<Option<Spine<'a>>, AllocError>
+fn flexible<'a>(alloc: Global, t: &'a Term) -> Result<Option<Pattern<'a>>, AllocError>
     ensures { IfOk result (λ found. option_map flexible_of found ≡ flexible t.now) }
 {
     match t.view() {
-        TermNode::Unknown(name, number, typ) => Ok(Some(Spine {
-            name,
-            number: *number,
-            typ,
-            args: Vec::new(alloc),
-        })),
+        TermNode::Unknown(name, number, typ) => {
+            let number = *number;
+            Ok(Some(Pattern {
+                unknown: Unknown { name, number, typ },
+                variables: Numbers::new(alloc),
+            }))
+        }
         TermNode::App(fun, arg) => {
             let Some(mut spine) = flexible(alloc, fun)? else {
                 return Ok(None);
@@ -81,7 +78,7 @@ fn flexible<'a>(alloc: Global, t: &'a Term) -> Result<Option<Spine<'a>>, AllocEr
             let TermNode::Bound(number) = arg.view() else {
                 return Ok(None);
             };
-            spine.args.push(*number)?;
+            spine.variables.push(*number)?;
             Ok(Some(spine))
         }
         _ => Ok(None),
@@ -89,24 +86,36 @@ fn flexible<'a>(alloc: Global, t: &'a Term) -> Result<Option<Spine<'a>>, AllocEr
 }
 
 /// Whether the unknown counts as a constant, since the instance maps it to itself.
-fn is_fixed(inst: &Inst, spine: &Spine<'_>) -> bool
-    ensures { result ≡ is_fixed inst.now spine.now.name.now spine.now.number spine.now.typ.now }
+fn is_fixed(inst: &Inst, spine: &Pattern<'_>) -> bool
+    ensures { result ≡ is_fixed inst.now spine.now.unknown.name.now spine.now.unknown.number spine.now.unknown.typ.now }
 {
-    match find_term(spine.name, spine.number, spine.typ, inst.terms().as_slice()) {
+    let Unknown { name, number, typ } = &spine.unknown;
+    match find_term(name, *number, typ, inst.terms().as_slice()) {
         None => false,
         Some(found) => match found.view() {
-            TermNode::Unknown(name, number, typ) => {
-                name.same(spine.name) && *number == spine.number && same_typ(typ, spine.typ)
+            TermNode::Unknown(other, count, kind) => {
+                other.same(name) && *count == *number && same_typ(kind, typ)
             }
             _ => false,
         },
     }
 }
 
-/// The term as an unknown that is to be solved, applied to bound variables, where it is one.
-fn to_solve<'a>(alloc: Global, inst: &Inst, t: &'a Term) -> Result<Option<Spine<'a>>, AllocError>
+/// The term as an unknown that is to be solved, applied to bound variables, where it is one: not where no unknown stands
+/// at its head.
+#[tactic(auto, using(crate::proofs::Unvisited::rigid_stays))]
+fn to_solve<'a>(
+    alloc: Global,
+    inst: &Inst,
+    t: &'a Term,
+    is_rigid: bool,
+) -> Result<Option<Pattern<'a>>, AllocError>
+    requires { IsTrue is_rigid → is_flexible t.now ≡ false }
     ensures { IfOk result (λ found. option_map flexible_of found ≡ to_solve inst.now t.now) }
 {
+    if is_rigid {
+        return Ok(None);
+    }
     let spine = flexible(alloc, t)?;
     match t.view() {
         TermNode::App(_, _) => match spine {
@@ -124,19 +133,14 @@ fn to_solve<'a>(alloc: Global, inst: &Inst, t: &'a Term) -> Result<Option<Spine<
 }
 
 /// Adds the term for the unknown, unless another one stands for it.
-fn bind(alloc: Global, inst: &mut Inst, spine: &Spine<'_>, term: Term) -> Result<bool, AllocError>
-    ensures { IfOk result (λ yes. bound_to (find_term spine.now.name.now spine.now.number spine.now.typ.now inst.old.terms) inst.old (flexible_of spine.now) term ≡ cond yes (Some inst.new) None) }
+fn bind(alloc: Global, inst: &mut Inst, spine: &Pattern<'_>, term: Term) -> Result<bool, AllocError>
+    ensures { IfOk result (λ yes. bound_to (find_term spine.now.unknown.name.now spine.now.unknown.number spine.now.unknown.typ.now inst.old.terms) inst.old (flexible_of spine.now) term ≡ cond yes (Some inst.new) None) }
 {
-    if let Some(found) = find_term(spine.name, spine.number, spine.typ, inst.terms().as_slice()) {
+    let Unknown { name, number, typ } = &spine.unknown;
+    if let Some(found) = find_term(name, *number, typ, inst.terms().as_slice()) {
         return Ok(same_term(found, &term));
     }
-    inst.put_term(
-        alloc,
-        spine.name.copy()?,
-        spine.number,
-        spine.typ.copy()?,
-        term,
-    )?;
+    inst.put_term(alloc, name.copy()?, *number, typ.copy()?, term)?;
     Ok(true)
 }
 
@@ -144,14 +148,14 @@ fn bind(alloc: Global, inst: &mut Inst, spine: &Spine<'_>, term: Term) -> Result
 #[tactic(auto, using(crate::proofs::Unvisited::closed_below, crate::proofs::Unvisited::open_above))]
 fn solve(
     alloc: Global,
-    binders: &Binders<'_>,
+    binders: &Binders,
     inst: &mut Inst,
-    spine: &Spine<'_>,
+    spine: &Pattern<'_>,
     term: &Term,
 ) -> Result<bool, AllocError>
     ensures { IfOk result (λ yes. solved (binders_in binders.now) inst.old (flexible_of spine.now) term.now ≡ cond yes (Some inst.new) None) }
 {
-    let Some(found) = solution(alloc, binders, &spine.args, term)? else {
+    let Some(found) = solution(alloc, binders, spine.variables.as_slice(), term)? else {
         return Ok(false);
     };
     if found.is_open() {
@@ -169,17 +173,27 @@ fn opened(alloc: Global, term: &Term) -> Result<Term, AllocError>
     Term::new(alloc, TermNode::App(fun, variable))
 }
 
+/// Whether no unknown is known to stand at the head of the function part.
+fn is_rigid_part(is_rigid: bool, fun: &Term) -> bool
+    requires { IsTrue is_rigid → is_flexible fun.now ≡ false }
+    ensures { IsTrue result → is_flexible fun.now ≡ false }
+{
+    is_rigid || !is_flexible(fun)
+}
+
 /// Adds what makes the pattern equal to the term, where it can be had. If not, some of it may have been added.
 fn extend(
     alloc: Global,
-    binders: &Binders<'_>,
+    binders: &Binders,
     inst: &mut Inst,
     pattern: &Term,
     term: &Term,
+    is_rigid: bool,
 ) -> Result<bool, AllocError>
+    requires { IsTrue is_rigid → is_flexible pattern.now ≡ false }
     ensures { IfOk result (λ yes. matched (binders_in binders.now) inst.old pattern.now term.now ≡ cond yes (Some inst.new) None) }
 {
-    if let Some(spine) = to_solve(alloc, inst, pattern)? {
+    if let Some(spine) = to_solve(alloc, inst, pattern, is_rigid)? {
         return solve(alloc, binders, inst, &spine, term);
     }
     match (pattern.view(), term.view()) {
@@ -189,18 +203,28 @@ fn extend(
         ),
         (TermNode::Bound(number), TermNode::Bound(other)) => Ok(*number == *other),
         (TermNode::Abs(name, _, body), TermNode::Abs(_, typ, other)) => {
-            let under = Binders::Under(name, typ, binders);
-            extend(alloc, &under, inst, body, other)
+            let variable = Variable {
+                name: name.copy()?,
+                typ: typ.copy()?,
+            };
+            let under = binders.under(alloc, variable)?;
+            extend(alloc, &under, inst, body, other, false)
         }
         (TermNode::Abs(name, typ, body), _) => {
-            let typ = inst_typ(alloc, inst.types().as_slice(), typ)?;
-            let under = Binders::Under(name, &typ, binders);
-            extend(alloc, &under, inst, body, &opened(alloc, term)?)
+            let variable = Variable {
+                name: name.copy()?,
+                typ: inst_typ(alloc, inst.types().as_slice(), typ)?,
+            };
+            let under = binders.under(alloc, variable)?;
+            extend(alloc, &under, inst, body, &opened(alloc, term)?, false)
         }
-        (TermNode::App(fun, arg), TermNode::App(other, argument)) => Ok(
-            extend(alloc, binders, inst, fun, other)?
-                && extend(alloc, binders, inst, arg, argument)?,
-        ),
+        (TermNode::App(fun, arg), TermNode::App(other, argument)) => {
+            let is_rigid = is_rigid_part(is_rigid, fun);
+            Ok(
+                extend(alloc, binders, inst, fun, other, is_rigid)?
+                    && extend(alloc, binders, inst, arg, argument, false)?,
+            )
+        }
         _ => Ok(false),
     }
 }
@@ -233,7 +257,7 @@ fn extend_by(
     };
     Ok(
         extend_types(alloc, inst, &typ, &wanted)?
-            && extend(alloc, &Binders::Outermost, inst, pattern, term)?,
+            && extend(alloc, &Binders::none(alloc)?, inst, pattern, term, false)?,
     )
 }
 

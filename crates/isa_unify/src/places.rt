@@ -7,6 +7,7 @@ ghost use Rattle.isa_unify.specs.Unification.{allowed, at_pattern, at_unknown, f
 
 use crate::equation::{Binders, Variable};
 use crate::numbers::Numbers;
+use crate::patterns::{Pattern, Unknown};
 use crate::progress::Verdict;
 use crate::spines::{args_of, distinct_bounds, has_number, head_of, is_flexible};
 use isa_terms::{Name, Term, TermNode, Typ};
@@ -54,39 +55,34 @@ pub fn shared_of(alloc: Global, others: &[u32], numbers: &[u32]) -> Result<Numbe
     Ok(kept)
 }
 
-/// An unknown and the bound variables to which it is applied.
-#[derive(Drop)]
-pub struct Pattern<'t> {
-    pub name: &'t Name,
-    pub number: u32,
-    pub typ: &'t Typ,
-    pub variables: &'t [u32],
-}
-
 /// An unknown on distinct variables: the one that is solved, or another.
 fn at_pattern(
     alloc: Global,
     solved: &Pattern<'_>,
     depth: u32,
     binders: &Binders,
-    name: &Name,
-    number: u32,
-    typ: &Typ,
+    other: &Unknown<'_>,
     variables: Numbers,
 ) -> Result<Verdict, AllocError>
-    ensures { IfOk result (λ v. v ≡ at_pattern solved.now.name.now solved.now.number solved.now.variables.now depth binders.now name.now number typ.now variables) }
+    ensures { IfOk result (λ v. v ≡ at_pattern solved.now.unknown.name.now solved.now.unknown.number solved.now.variables depth binders.now other.now.name.now other.now.number other.now.typ.now variables) }
 {
-    if solved.name.same(name) && solved.number == number {
+    let unknown = &solved.unknown;
+    if unknown.name.same(other.name) && unknown.number == other.number {
         return Ok(Verdict::Refused);
     }
-    let kept = allowed_of(alloc, solved.variables, depth, variables.as_slice())?;
+    let kept = allowed_of(
+        alloc,
+        solved.variables.as_slice(),
+        depth,
+        variables.as_slice(),
+    )?;
     if kept.len() == variables.len() {
         return Ok(Verdict::Fine);
     }
     Ok(Verdict::Prunes(
-        name.copy()?,
-        number,
-        typ.copy()?,
+        other.name.copy()?,
+        other.number,
+        other.typ.copy()?,
         binders.copy()?,
         variables,
         kept,
@@ -102,14 +98,16 @@ fn at_unknown(
     head: &Term,
     args: &[Term],
 ) -> Result<Verdict, AllocError>
-    ensures { IfOk result (λ v. v ≡ at_unknown solved.now.name.now solved.now.number solved.now.variables.now depth binders.now head.now args.now) }
+    ensures { IfOk result (λ v. v ≡ at_unknown solved.now.unknown.name.now solved.now.unknown.number solved.now.variables depth binders.now head.now args.now) }
 {
     match head.view() {
         TermNode::Unknown(name, number, typ) => match distinct_bounds(alloc, args)? {
             None => Ok(Verdict::Strays),
-            Some(variables) => at_pattern(
-                alloc, solved, depth, binders, name, *number, typ, variables,
-            ),
+            Some(variables) => {
+                let number = *number;
+                let other = Unknown { name, number, typ };
+                at_pattern(alloc, solved, depth, binders, &other, variables)
+            }
         },
         _ => Ok(Verdict::Fine),
     }
@@ -145,7 +143,7 @@ pub fn first_place(
     binders: &Binders,
     t: &Term,
 ) -> Result<Verdict, AllocError>
-    ensures { IfOk result (λ v. v ≡ first_place solved.now.name.now solved.now.number solved.now.variables.now depth binders.now t.now) }
+    ensures { IfOk result (λ v. v ≡ first_place solved.now.unknown.name.now solved.now.unknown.number solved.now.variables depth binders.now t.now) }
 {
     first_part(alloc, solved, depth, binders, t, false)
 }
@@ -161,7 +159,7 @@ fn first_part(
     is_rigid: bool,
 ) -> Result<Verdict, AllocError>
     requires { IsTrue is_rigid → is_flexible t.now ≡ false }
-    ensures { IfOk result (λ v. v ≡ first_place solved.now.name.now solved.now.number solved.now.variables.now depth binders.now t.now) }
+    ensures { IfOk result (λ v. v ≡ first_place solved.now.unknown.name.now solved.now.unknown.number solved.now.variables depth binders.now t.now) }
 {
     if !t.has_unknowns() && t.loose_end() <= u64::from(depth) {
         return Ok(Verdict::Fine);
@@ -169,10 +167,11 @@ fn first_part(
     match t.view() {
         TermNode::Const(_, _) | TermNode::Free(_, _) => Ok(Verdict::Fine),
         TermNode::Unknown(name, number, typ) => {
-            let none = Numbers::new(alloc);
-            at_pattern(alloc, solved, depth, binders, name, *number, typ, none)
+            let number = *number;
+            let other = Unknown { name, number, typ };
+            at_pattern(alloc, solved, depth, binders, &other, Numbers::new(alloc))
         }
-        TermNode::Bound(number) => Ok(at_bound(solved.variables, depth, *number)),
+        TermNode::Bound(number) => Ok(at_bound(solved.variables.as_slice(), depth, *number)),
         TermNode::Abs(name, typ, body) => {
             let under = depth.checked_add(1).ok_or(AllocError)?;
             let binders = entered(alloc, binders, name, typ)?;

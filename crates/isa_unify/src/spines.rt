@@ -1,43 +1,26 @@
 //! Heads, arguments, and the variables to which an unknown is applied.
 
-ghost use Rattle.std.specs.Prelude.{◌≡◌, ◌++◌, IfOk, OnOk};
+ghost use Rattle.std.specs.Prelude.{◌≡◌, IfOk};
 ghost use Rattle.isa_unify.specs.Spines.{head_of, args_of, is_flexible, has_number, are_distinct, bounds_of, distinct_bounds};
 
 use crate::numbers::Numbers;
-use isa_terms::{Term, TermNode, Terms};
+use isa_terms::{Term, TermNode, Terms, head};
 use std::alloc::{AllocError, Global};
 
 /// What is applied to the arguments of the term.
+#[tactic(auto, using(crate::proofs::Mapped::same_head))]
 pub fn head_of(t: &Term) -> &Term
     ensures { result.now ≡ head_of t.now }
 {
-    match t.view() {
-        TermNode::App(fun, _) => head_of(fun),
-        _ => t,
-    }
-}
-
-/// Puts the arguments of the term behind others.
-fn push_args(t: &Term, args: &mut Terms) -> Result<(), AllocError>
-    ensures { OnOk result (args.new ≡ args.old ++ args_of t.now) }
-{
-    match t.view() {
-        TermNode::App(fun, arg) => {
-            push_args(fun, args)?;
-            args.push(arg.copy()?)?;
-            Ok(())
-        }
-        _ => Ok(()),
-    }
+    head(t)
 }
 
 /// The arguments of the term, from left to right.
+#[tactic(auto, using(crate::proofs::Mapped::same_args))]
 pub fn args_of(alloc: Global, t: &Term) -> Result<Terms, AllocError>
     ensures { IfOk result (λ args. args ≡ args_of t.now) }
 {
-    let mut args = Terms::new(alloc);
-    push_args(t, &mut args)?;
-    Ok(args)
+    isa_terms::args_of(alloc, t)
 }
 
 /// Whether the head is an unknown.

@@ -1,7 +1,7 @@
 //! The steps of unification.
 
 ghost use Rattle.std.specs.Prelude.{◌≡◌, ◌++◌, IfOk};
-ghost use Rattle.isa_terms.specs.Terms.{Unknown};
+ghost use Rattle.isa_terms.specs.Terms as tm;
 ghost use Rattle.isa_unify.specs.Spines.{head_of, args_of, distinct_bounds};
 ghost use Rattle.isa_unify.specs.Steps.{taken, prune};
 ghost use Rattle.isa_unify.specs.Unification.{agreeing, assigned, renewed, both_become, solve, solve_same, solve_two, solve_unknowns, on_pattern, flexible_step, after_types, front_step, parts_at, unify_step, unified};
@@ -12,14 +12,15 @@ use crate::equation::{Binders, Equation};
 use crate::late::Late;
 use crate::numbers::Numbers;
 use crate::parts::parts_at;
-use crate::places::{Pattern, first_place, shared_of};
+use crate::patterns::{Pattern, Unknown};
+use crate::places::{first_place, shared_of};
 use crate::progress::{Answer, Parts, Progress, State, Verdict};
 use crate::spines::{args_of, distinct_bounds, head_of};
-use isa_terms::{Name, Term, TermEntries, TermEntry, TermNode, Typ};
+use isa_terms::{Term, TermEntries, TermEntry, TermNode};
 use std::alloc::{AllocError, Global};
 
-/// The unknown of the pattern with its term.
-fn entry_of(solved: &Pattern<'_>, term: Term) -> Result<TermEntry, AllocError>
+/// The unknown with its term.
+fn entry_of(solved: &Unknown<'_>, term: Term) -> Result<TermEntry, AllocError>
     ensures { IfOk result (λ e. e ≡ record { name = solved.now.name.now; number = solved.now.number; typ = solved.now.typ.now; term = term }) }
 {
     Ok(TermEntry {
@@ -37,10 +38,10 @@ fn assigned(
     solved: &Pattern<'_>,
     term: Term,
 ) -> Result<Late, AllocError>
-    ensures { IfOk result (λ s. s ≡ assigned state solved.now.name.now solved.now.number solved.now.typ.now term) }
+    ensures { IfOk result (λ s. s ≡ assigned state solved.now.unknown.name.now solved.now.unknown.number solved.now.unknown.typ.now term) }
 {
     let mut entries = TermEntries::new(alloc);
-    entries.push(entry_of(solved, term)?)?;
+    entries.push(entry_of(&solved.unknown, term)?)?;
     state.filled(entries)
 }
 
@@ -53,11 +54,12 @@ fn renewed(
     new: u32,
     kept: &[u32],
 ) -> Result<Late, AllocError>
-    ensures { IfOk result (λ s. s ≡ renewed state binders.now solved.now.name.now solved.now.number solved.now.typ.now solved.now.variables.now new kept.now) }
+    ensures { IfOk result (λ s. s ≡ renewed state binders.now solved.now.unknown.name.now solved.now.unknown.number solved.now.unknown.typ.now solved.now.variables new kept.now) }
 {
-    let range = range_behind(solved.variables, solved.typ);
-    let unknown = over(alloc, binders, solved.name, new, kept, range)?;
-    let term = abstracted(alloc, binders, solved.variables, &unknown)?;
+    let variables = solved.variables.as_slice();
+    let range = range_behind(variables, solved.unknown.typ);
+    let unknown = over(alloc, binders, solved.unknown.name, new, kept, range)?;
+    let term = abstracted(alloc, binders, variables, &unknown)?;
     assigned(alloc, state, solved, term)
 }
 
@@ -70,7 +72,7 @@ fn prune(
     pruned: &Pattern<'_>,
     kept: &[u32],
 ) -> Result<Progress, AllocError>
-    ensures { IfOk result (λ p. p ≡ taken (prune state equation.now binders.now pruned.now.name.now pruned.now.number pruned.now.typ.now pruned.now.variables.now kept.now)) }
+    ensures { IfOk result (λ p. p ≡ taken (prune state equation.now binders.now pruned.now.unknown.name.now pruned.now.unknown.number pruned.now.unknown.typ.now pruned.now.variables kept.now)) }
 {
     if state.left() == 0 {
         return Ok(Progress::Ended(Answer::Outside));
@@ -89,22 +91,22 @@ fn solve(
     solved: &Pattern<'_>,
     t: &Term,
 ) -> Result<Progress, AllocError>
-    ensures { IfOk result (λ p. p ≡ taken (solve state equation.now solved.now.name.now solved.now.number solved.now.typ.now solved.now.variables.now t.now)) }
+    ensures { IfOk result (λ p. p ≡ taken (solve state equation.now solved.now.unknown.name.now solved.now.unknown.number solved.now.unknown.typ.now solved.now.variables t.now)) }
 {
     match first_place(alloc, solved, 0, &equation.binders, t)? {
         Verdict::Fine => {
-            let term = abstracted(alloc, &equation.binders, solved.variables, t)?;
+            let term = abstracted(alloc, &equation.binders, solved.variables.as_slice(), t)?;
             Ok(Progress::Going(assigned(alloc, state, solved, term)?))
         }
         Verdict::Refused => Ok(Progress::Ended(Answer::No)),
         Verdict::Strays => Ok(Progress::Ended(Answer::Outside)),
         Verdict::Prunes(name, number, typ, binders, variables, kept) => {
-            let pruned = Pattern {
+            let unknown = Unknown {
                 name: &name,
                 number,
                 typ: &typ,
-                variables: variables.as_slice(),
             };
+            let pruned = Pattern { unknown, variables };
             prune(alloc, state, equation, &binders, &pruned, kept.as_slice())
         }
     }
@@ -133,9 +135,9 @@ fn solve_same(
     solved: &Pattern<'_>,
     others: &[u32],
 ) -> Result<Progress, AllocError>
-    ensures { IfOk result (λ p. p ≡ taken (solve_same state equation.now solved.now.name.now solved.now.number solved.now.typ.now solved.now.variables.now others.now)) }
+    ensures { IfOk result (λ p. p ≡ taken (solve_same state equation.now solved.now.unknown.name.now solved.now.unknown.number solved.now.unknown.typ.now solved.now.variables others.now)) }
 {
-    let kept = agreeing(solved.variables, others, Numbers::new(alloc))?;
+    let kept = agreeing(solved.variables.as_slice(), others, Numbers::new(alloc))?;
     if kept.len() == solved.variables.len() {
         return Ok(Progress::Going(state));
     }
@@ -163,12 +165,14 @@ fn both_become(
     right: &Pattern<'_>,
     shared: &Term,
 ) -> Result<Late, AllocError>
-    ensures { IfOk result (λ s. s ≡ both_become state equation.now left.now.name.now left.now.number left.now.typ.now left.now.variables.now right.now.name.now right.now.number right.now.typ.now right.now.variables.now shared.now) }
+    ensures { IfOk result (λ s. s ≡ both_become state equation.now left.now.unknown.name.now left.now.unknown.number left.now.unknown.typ.now left.now.variables right.now.unknown.name.now right.now.unknown.number right.now.unknown.typ.now right.now.variables shared.now) }
 {
     let binders = &equation.binders;
     let mut entries = TermEntries::new(alloc);
-    entries.push(entry_of(left, abstracted(alloc, binders, left.variables, shared)?)?)?;
-    entries.push(entry_of(right, abstracted(alloc, binders, right.variables, shared)?)?)?;
+    let left_term = abstracted(alloc, binders, left.variables.as_slice(), shared)?;
+    entries.push(entry_of(&left.unknown, left_term)?)?;
+    let right_term = abstracted(alloc, binders, right.variables.as_slice(), shared)?;
+    entries.push(entry_of(&right.unknown, right_term)?)?;
     state.filled(entries)
 }
 
@@ -180,18 +184,19 @@ fn solve_two(
     left: &Pattern<'_>,
     right: &Pattern<'_>,
 ) -> Result<Progress, AllocError>
-    ensures { IfOk result (λ p. p ≡ taken (solve_two state equation.now left.now.name.now left.now.number left.now.typ.now left.now.variables.now right.now.name.now right.now.number right.now.typ.now right.now.variables.now)) }
+    ensures { IfOk result (λ p. p ≡ taken (solve_two state equation.now left.now.unknown.name.now left.now.unknown.number left.now.unknown.typ.now left.now.variables right.now.unknown.name.now right.now.unknown.number right.now.unknown.typ.now right.now.variables)) }
 {
     if state.left() == 0 {
         return Ok(Progress::Ended(Answer::Outside));
     }
     let new = state.next();
-    let kept = shared_of(alloc, right.variables, left.variables)?;
-    let range = range_behind(left.variables, left.typ);
+    let variables = left.variables.as_slice();
+    let kept = shared_of(alloc, right.variables.as_slice(), variables)?;
+    let range = range_behind(variables, left.unknown.typ);
     let shared = over(
         alloc,
         &equation.binders,
-        left.name,
+        left.unknown.name,
         new,
         kept.as_slice(),
         range,
@@ -208,10 +213,10 @@ fn solve_unknowns(
     left: &Pattern<'_>,
     right: &Pattern<'_>,
 ) -> Result<Progress, AllocError>
-    ensures { IfOk result (λ p. p ≡ taken (solve_unknowns state equation.now left.now.name.now left.now.number left.now.typ.now left.now.variables.now right.now.name.now right.now.number right.now.typ.now right.now.variables.now)) }
+    ensures { IfOk result (λ p. p ≡ taken (solve_unknowns state equation.now left.now.unknown.name.now left.now.unknown.number left.now.unknown.typ.now left.now.variables right.now.unknown.name.now right.now.unknown.number right.now.unknown.typ.now right.now.variables)) }
 {
-    if left.name.same(right.name) && left.number == right.number {
-        solve_same(alloc, state, equation, left, right.variables)
+    if left.unknown.name.same(right.unknown.name) && left.unknown.number == right.unknown.number {
+        solve_same(alloc, state, equation, left, right.variables.as_slice())
     } else {
         solve_two(alloc, state, equation, left, right)
     }
@@ -225,23 +230,15 @@ fn variables_of(alloc: Global, t: &Term) -> Result<Option<Numbers>, AllocError>
     distinct_bounds(alloc, args.as_slice())
 }
 
-/// An unknown at the head of a side.
-#[derive(Drop)]
-struct Head<'t> {
-    name: &'t Name,
-    number: u32,
-    typ: &'t Typ,
-}
-
 /// Two unknowns at the heads of both sides.
 fn solve_both(
     alloc: Global,
     state: Late,
     equation: &Equation,
-    left: &Head<'_>,
-    right: &Head<'_>,
+    left: Unknown<'_>,
+    right: Unknown<'_>,
 ) -> Result<Progress, AllocError>
-    ensures { IfOk result (λ p. p ≡ taken (flexible_step state equation.now (Unknown left.now.name.now left.now.number left.now.typ.now) (Unknown right.now.name.now right.now.number right.now.typ.now))) }
+    ensures { IfOk result (λ p. p ≡ taken (flexible_step state equation.now (tm.Unknown left.entry.name.now left.entry.number left.entry.typ.now) (tm.Unknown right.entry.name.now right.entry.number right.entry.typ.now))) }
 {
     let Some(variables) = variables_of(alloc, &equation.left)? else {
         return Ok(Progress::Ended(Answer::Outside));
@@ -250,16 +247,12 @@ fn solve_both(
         return Ok(Progress::Ended(Answer::Outside));
     };
     let left = Pattern {
-        name: left.name,
-        number: left.number,
-        typ: left.typ,
-        variables: variables.as_slice(),
+        unknown: left,
+        variables,
     };
     let right = Pattern {
-        name: right.name,
-        number: right.number,
-        typ: right.typ,
-        variables: others.as_slice(),
+        unknown: right,
+        variables: others,
     };
     solve_unknowns(alloc, state, equation, &left, &right)
 }
@@ -269,20 +262,18 @@ fn solve_side(
     alloc: Global,
     state: Late,
     equation: &Equation,
-    head: &Head<'_>,
+    head: Unknown<'_>,
     side: &Term,
     other: &Term,
 ) -> Result<Progress, AllocError>
-    ensures { IfOk result (λ p. p ≡ taken (on_pattern (distinct_bounds (args_of side.now)) (λ xs. solve state equation.now head.now.name.now head.now.number head.now.typ.now xs other.now))) }
+    ensures { IfOk result (λ p. p ≡ taken (on_pattern (distinct_bounds (args_of side.now)) (λ xs. solve state equation.now head.entry.name.now head.entry.number head.entry.typ.now xs other.now))) }
 {
     let Some(variables) = variables_of(alloc, side)? else {
         return Ok(Progress::Ended(Answer::Outside));
     };
     let solved = Pattern {
-        name: head.name,
-        number: head.number,
-        typ: head.typ,
-        variables: variables.as_slice(),
+        unknown: head,
+        variables,
     };
     solve(alloc, state, equation, &solved, other)
 }
@@ -296,24 +287,24 @@ fn flexible_step(alloc: Global, state: Late, equation: &Equation) -> Result<Prog
     match (head_of(left).view(), head_of(right).view()) {
         (TermNode::Unknown(name, number, typ), TermNode::Unknown(other, count, kind)) => {
             let number = *number;
-            let head = Head { name, number, typ };
+            let head = Unknown { name, number, typ };
             let number = *count;
-            let against = Head {
+            let against = Unknown {
                 name: other,
                 number,
                 typ: kind,
             };
-            solve_both(alloc, state, equation, &head, &against)
+            solve_both(alloc, state, equation, head, against)
         }
         (TermNode::Unknown(name, number, typ), _) => {
             let number = *number;
-            let head = Head { name, number, typ };
-            solve_side(alloc, state, equation, &head, left, right)
+            let head = Unknown { name, number, typ };
+            solve_side(alloc, state, equation, head, left, right)
         }
         (_, TermNode::Unknown(name, number, typ)) => {
             let number = *number;
-            let head = Head { name, number, typ };
-            solve_side(alloc, state, equation, &head, right, left)
+            let head = Unknown { name, number, typ };
+            solve_side(alloc, state, equation, head, right, left)
         }
         _ => Ok(Progress::Ended(Answer::No)),
     }

@@ -1,6 +1,7 @@
 // How long unification takes, and how much memory: `isa_unify_bench KIND SIZE`, KIND being one of
 // `walk` (two terms of about so many nodes, built apart, without unknowns), `chain` (so many unknowns, each under one
-// more application) and `types` (so many type unknowns, each a list of the next).
+// more application), `types` (so many type unknowns, each a list of the next) and `prunings` (an unknown on one of two
+// variables against so many unknowns on both, each of which loses one).
 // `walk 100000` took 0.3 s of one processor and 35 MB, `chain 1000` and `types 1000` 0.15 s and 13 MB each; four times as
 // many unknowns take about sixteen times as long, and the same memory.
 #![tactic(auto)]
@@ -72,6 +73,53 @@ fn chain(alloc: Global, known: bool, length: u32) -> Result<Term, AllocError> {
     Ok(t)
 }
 
+/// The unknown of that name and number.
+fn unknown(alloc: Global, name: &str, number: u32, typ: &Typ) -> Result<Term, AllocError> {
+    Term::new(
+        alloc,
+        TermNode::Unknown(Name::from_text(alloc, name)?, number, typ.copy()?),
+    )
+}
+
+/// The term on a variable of the binders round it.
+fn on_variable(alloc: Global, fun: Term, variable: u32) -> Result<Term, AllocError> {
+    let argument = Term::new(alloc, TermNode::Bound(variable))?;
+    Term::new(alloc, TermNode::App(fun, argument))
+}
+
+/// The term under binders of two variables.
+fn under_two(alloc: Global, base: &Typ, body: Term) -> Result<Term, AllocError> {
+    let inner = Term::new(
+        alloc,
+        TermNode::Abs(Name::from_text(alloc, "z")?, base.copy()?, body),
+    )?;
+    Term::new(
+        alloc,
+        TermNode::Abs(Name::from_text(alloc, "x")?, base.copy()?, inner),
+    )
+}
+
+/// An unknown on the first of two variables, under their binders.
+fn on_first(alloc: Global) -> Result<Term, AllocError> {
+    let base = base(alloc)?;
+    let unary = function_type(alloc, base.copy()?, base.copy()?)?;
+    let body = on_variable(alloc, unknown(alloc, "F", 0, &unary)?, 1)?;
+    under_two(alloc, &base, body)
+}
+
+/// So many unknowns on two variables, under their binders, each under one more application.
+fn on_both(alloc: Global, length: u32) -> Result<Term, AllocError> {
+    let base = base(alloc)?;
+    let binary = binary(alloc)?;
+    let mut t = constant(alloc, "c", &base)?;
+    for number in 0..length {
+        let first = on_variable(alloc, unknown(alloc, "x", number, &binary)?, 1)?;
+        let item = on_variable(alloc, first, 0)?;
+        t = pair(alloc, &binary, item, t)?;
+    }
+    under_two(alloc, &base, t)
+}
+
 /// The type unknown of that number.
 fn type_unknown(alloc: Global, number: u32) -> Result<Typ, AllocError> {
     Typ::new(
@@ -130,6 +178,9 @@ fn run(alloc: Global, kind: &str, size: u32) -> Result<String, AllocError> {
             &chain(alloc, false, size)?,
             &chain(alloc, true, size)?,
         );
+    }
+    if kind == "prunings" {
+        return answer(alloc, &on_first(alloc)?, &on_both(alloc, size)?);
     }
     let base = base(alloc)?;
     let binary = binary(alloc)?;

@@ -1,63 +1,42 @@
 -- What was written of a list of pieces.
 -- Source: writes that may fail, as Rust's `std::io::Write` has them.
-use Rattle.std.specs.Prelude.{◌≡◌, ◌≢◌, ◌↔◌, ◌⊎◌, ℕ, ◌<◌, List, [], ◌∷◌, ◌++◌}
+use Rattle.std.specs.Prelude.{◌≡◌, ◌≢◌, ◌↔◌, ◌⊎◌, ℕ, ◌<◌, List, [], ◌∷◌, ◌++◌, take}
 use Rattle.std.specs.Io.KnownBytes.{Appends}
-use Rattle.isa_io.specs.SinkSeen.{SinkSeen}
-use Rattle.isaprove.specs.Piece.{Piece, out_of, err_of, clip}
-use Rattle.isaprove.specs.Part.{Part}
-use Rattle.isaprove.specs.Run.{answer_of}
+use Rattle.isaprove.specs.Sinks.{Sinks}
+use Rattle.isaprove.specs.Shown.{Piece, piece_out, piece_err, out_of, err_of}
+use Rattle.isaprove.specs.Run.{State, Reaches, EndsWith}
 use Rattle.isaprove.specs.Sound.{AreSound}
 
--- the two sinks
-pub record Sinks : Type 0 where
-  pub out : SinkSeen
-  pub err : SinkSeen
+-- these bytes were written, and nothing else
+pub record WritesBytes (before after : Sinks) (to_out to_err : List ℕ) : Type 0 where
+  pub out : Appends before.out.written after.out.written to_out
+  pub err : Appends before.err.written after.err.written to_err
 
 -- these pieces were written, and nothing else
-pub record Writes (before after : Sinks) (pieces : List Piece) : Type 0 where
-  pub out : Appends before.out.written after.out.written (out_of pieces)
-  pub err : Appends before.err.written after.err.written (err_of pieces)
+abbrev pub Writes : Sinks → Sinks → List Piece → Type 0
+Writes before after pieces = WritesBytes before after (out_of pieces) (err_of pieces)
 
 -- a count of faults rose
 abbrev pub Rose : Sinks → Sinks → Type 0
 Rose before after = (before.out.faults < after.out.faults) ⊎ (before.err.faults < after.err.faults)
 
--- no count of faults changed
-pub record NoFault (before after : Sinks) : Type 0 where
-  pub out : after.out.faults ≡ before.out.faults
-  pub err : after.err.faults ≡ before.err.faults
-
--- all of the pieces were written, and what they show is sound
-pub record All (before after : Sinks) (pieces : List Piece) : Type 0 where
-  pub no_fault : NoFault before after
-  pub writes : Writes before after pieces
-  pub sound : AreSound pieces
-
--- some first pieces were written whole, and what they show is sound
-pub record Front (before after : Sinks) (pieces : List Piece) : Type 0 where
-  pub no_fault : NoFault before after
-  pub front : List Piece
-  pub rest : List Piece
-  pub split : pieces ≡ front ++ rest
-  pub writes : Writes before after front
-  pub sound : AreSound front
-
--- a fault came, after some first pieces were written whole and some first bytes of the next one
+-- a fault came: the pieces but the last were written whole, and some first bytes of the last
 pub record CutShort (before after : Sinks) (pieces : List Piece) : Type 0 where
   pub rose : Rose before after
   pub front : List Piece
   pub piece : Piece
   pub count : ℕ
-  pub rest : List Piece
-  pub split : pieces ≡ front ++ piece ∷ rest
-  pub writes : Writes before after (front ++ clip count piece ∷ [])
-  pub sound : AreSound front
+  pub split : pieces ≡ front ++ piece ∷ []
+  pub writes : WritesBytes before after (out_of front ++ take count (piece_out piece)) (err_of front ++ take count (piece_err piece))
 
--- the answer and what was written are those of a run
-pub record Answers (run : Part) (answer : ℕ) (before after : Sinks) : Type 0 where
+-- The run from this state came to another one, its pieces were written, and what they show is sound. It came to its end, which the answer
+-- tells, unless it was left for want of memory, which is 6, or for a fault of a sink, which is 5; then the last piece was cut short.
+pub record Answers (from : State) (answer : ℕ) (before after : Sinks) : Type 0 where
+  pub pieces : List Piece
+  pub to : State
+  pub reaches : Reaches from pieces to
+  pub sound : AreSound pieces
   pub write_fault : (answer ≡ 5) ↔ Rose before after
-  pub cut : answer ≡ 5 → CutShort before after run.pieces
-  pub memory : answer ≡ 6 → Front before after run.pieces
-  pub status : answer ≢ 5 → answer ≢ 6 → answer ≡ answer_of run.end
-  pub whole : answer ≢ 5 → answer ≢ 6 → Writes before after run.pieces
-  pub sound : answer ≢ 5 → answer ≢ 6 → AreSound run.pieces
+  pub cut : answer ≡ 5 → CutShort before after pieces
+  pub whole : answer ≢ 5 → Writes before after pieces
+  pub ends : answer ≢ 5 → answer ≢ 6 → EndsWith to answer

@@ -1,93 +1,54 @@
--- A run over words, each the name of a file, and what the files gave.
--- Source: this project.
-use Rattle.std.specs.Prelude.{◌≡◌, ℕ, zero, suc, ◌-◌, ◌<◌, ◌≤◌, Bool, true, false, cond, not, nat_eq, nat_le, nat_lt, List, [], ◌∷◌, ◌++◌, length, map, None, Some, MatchOption, codes, string_bytes}
-use Rattle.std.specs.Prelude.{String}
+-- A run over words, and what the files gave for those that name one: from state to state, each step with the pieces that it prints.
+-- Source: this project; 64 is `EX_USAGE` of BSD's sysexits.
+use Rattle.std.specs.Prelude.{◌≡◌, ℕ, zero, suc, ◌-◌, ◌<◌, ◌≤◌, Bool, true, false, cond, not, ◌&&◌, nat_eq, nat_le, nat_lt, List, [], ◌∷◌, ◌++◌, length, map, Option, None, Some, MatchOption, Result, Ok, Err, String, codes, decimal, string_bytes, if◌then◌else◌}
+use Rattle.std.specs.Str.{bytes_eq}
 use Rattle.std.specs.declared.alloc.Global.{Global}
-use Rattle.std.specs.declared.option.Option.{Option}
-use Rattle.isa_io.specs.FilesSeen.{FilesSeen, Texts, text_of}
-use Rattle.isa_lines.specs.declared.command.Command.{Command}
-use Rattle.isaprove.specs.declared.context.OpenLemma.{OpenLemma}
+use Rattle.isa_io.specs.FilesSeen.{FilesSeen, Texts, text_of as file_text}
+use Rattle.isa_outer.specs.declared.command.Command.{Command}
+use Rattle.isa_outer.specs.declared.command.Command.TheVariants as command
+use Rattle.isa_outer.specs.declared.refusal.Kind.{Kind}
+use Rattle.isa_outer.specs.declared.refusal.Kind.TheVariants as kind
+use Rattle.isa_outer.specs.declared.refusal.Refused.{Refused}
+use Rattle.isa_outer.specs.Refusals.{text_of}
+use Rattle.isa_outer.specs.Texts.{reading_of}
+use Rattle.isa_theory.specs.Contexts.{empty_context}
+use Rattle.isa_theory.specs.Applying.{line_of}
+use Rattle.isaprove.specs.declared.session.OpenLemma.{OpenLemma}
+use Rattle.isaprove.specs.declared.session.Session.{Session}
+use Rattle.isaprove.specs.declared.failure.Failure.{Failure}
+use Rattle.isaprove.specs.declared.failure.Failure.TheVariants.{NoResult, Spent}
+use Rattle.isaprove.specs.declared.failure.Rejection.{Rejection}
+use Rattle.isaprove.specs.declared.failure.Rejection.TheVariants as rejection
+use Rattle.isaprove.specs.declared.progress.Progress.{Progress}
 use Rattle.isaprove.specs.declared.status.Status.{Status}
 use Rattle.isaprove.specs.declared.status.Status.TheVariants as status
-use Rattle.isa_lines.specs.Words.{lines_of, words_of}
-use Rattle.isa_lines.specs.Commands.{commands_of}
-use Rattle.isaprove.specs.Contexts.{ContextSeen, empty_context}
-use Rattle.isaprove.specs.Steps.{Outcome, Unbuilt, Fails, Takes, Prints, outcome}
-use Rattle.isaprove.specs.Part.{Part, End, Goes, Stops, next, pass, show, stop, at_line}
+use Rattle.isaprove.specs.declared.files.TheConstants.{LIMIT}
+use Rattle.isaprove.specs.Shown.{Piece, Shown, ToOut, ToErr}
+use Rattle.isaprove.specs.Steps.{Next, dropped, Comes}
 
--- ---- one file's text
--- what comes of a command is printed, or the line is told
-abbrev pub part_of : List ℕ → ℕ → Outcome → Part
-part_of file line Unbuilt = stop status.Refused (at_line file line (codes "not built yet"))
-part_of file line Fails = stop status.NoResult (at_line file line (codes "no result"))
-part_of file line (Takes c) = pass c
-part_of file line (Prints bytes shows c) = show bytes shows c
+-- ---- messages
+-- FILE:LINE: and a blank
+abbrev pub place_text : List ℕ → ℕ → List ℕ
+place_text file line = file ++ (codes ":" ++ (decimal line ++ codes ": "))
 
-unfoldable pub run_command : List ℕ → ℕ → ContextSeen → Command → Part
-run_command file line c command = part_of file line (outcome c line command)
+abbrev pub failure_text : Failure → List ℕ
+failure_text (NoResult outside) = if nat_eq outside 0 then codes "no result" else codes "no result (outside patterns: " ++ (decimal outside ++ codes ")")
+failure_text (Spent budget) = codes "budget of " ++ (decimal budget ++ codes " spent")
 
--- the commands of a line, one after another
-abbrev pub run_commands : List ℕ → ℕ → ContextSeen → List Command → Part
-run_commands file line c [] = pass c
-run_commands file line c (command ∷ commands) = next (run_command file line c command) (λ d. run_commands file line d commands)
+unfoldable pub failure_line : List ℕ → ℕ → Failure → List ℕ
+failure_line file line failure = (place_text file line ++ failure_text failure) ++ codes "\n"
 
--- a line that has none of the forms is not built yet
-abbrev pub run_read : List ℕ → ℕ → ContextSeen → Option (List Command) → Part
-run_read file line c None = stop status.Refused (at_line file line (codes "not built yet"))
-run_read file line c (Some commands) = run_commands file line c commands
+unfoldable pub refusal_line : List ℕ → ℕ → Kind → List ℕ
+refusal_line file line k = (place_text file line ++ text_of k) ++ codes "\n"
 
--- one line, with its number
-unfoldable pub run_line : List ℕ → ContextSeen → ℕ × List ℕ → Part
-run_line file c line = run_read file line.0 c (commands_of (words_of line.1))
+abbrev pub long_line : List ℕ → List ℕ
+long_line file = (file ++ codes ": longer than 16777216 bytes") ++ codes "\n"
 
--- lines, one after another
-abbrev pub run_lines : List ℕ → ContextSeen → List (ℕ × List ℕ) → Part
-run_lines file c [] = pass c
-run_lines file c (line ∷ lines) = next (run_line file c line) (λ d. run_lines file d lines)
+abbrev pub unread_line : List ℕ → List ℕ
+unread_line file = (file ++ codes ": cannot be read") ++ codes "\n"
 
--- at the end of a file no proof is open
-abbrev pub close_text : List ℕ → ContextSeen → Option OpenLemma → Part
-close_text file c None = pass c
-close_text file c (Some l) = stop status.Refused (at_line file l.line (codes "proof not closed"))
-
--- the text of a file
-unfoldable pub run_text : List ℕ → ContextSeen → List ℕ → Part
-run_text file c text = next (run_lines file c (lines_of text)) (λ d. close_text file d d.lemma)
-
--- ---- files
--- what the files gave for a word
-pub data Given : Type 0 where
-  Text : (bytes : List ℕ) → Given
-  Long : Given
-  Failed : Given
-
-abbrev pub limit : ℕ
-limit = 16777216
-
--- a text is no longer than the limit
-abbrev pub IsWithin : Given → Type 0
-IsWithin (Text bytes) = length bytes ≤ limit
-IsWithin Long = Unit {0}
-IsWithin Failed = Unit {0}
-
--- a word, and what the files gave for it
-pub record Input : Type 0 where
-  pub name : List ℕ
-  pub given : Given
-
--- what one file does
-abbrev pub run_given : ContextSeen → List ℕ → Given → Part
-run_given c name (Text bytes) = run_text name c bytes
-run_given c name Long = stop status.Refused (name ++ codes ": longer than 16777216 bytes")
-run_given c name Failed = stop status.ReadFault (name ++ codes ": cannot be read")
-
-abbrev pub run_file : ContextSeen → Input → Part
-run_file c input = run_given c input.name input.given
-
--- what files do, one after another
-abbrev pub run_files : ContextSeen → List Input → Part
-run_files c [] = pass c
-run_files c (input ∷ inputs) = next (run_file c input) (λ d. run_files d inputs)
+abbrev pub usage : List ℕ
+usage = codes "usage: isaprove [-k] FILE... | isaprove --generate N\n"
 
 -- ---- words
 -- a word is the name of a file if it doesn't begin with a dash
@@ -95,37 +56,154 @@ abbrev pub is_file_name : List ℕ → Bool
 is_file_name [] = true
 is_file_name (b ∷ bs) = not (nat_eq b 45)
 
--- the words have a reading if they are the name of one file
+abbrev pub are_file_names : List (List ℕ) → Bool
+are_file_names [] = true
+are_file_names (word ∷ words) = is_file_name word && are_file_names words
+
+-- whether the first word is `-k`
+abbrev pub keeps_on : List (List ℕ) → Bool
+keeps_on [] = false
+keeps_on (word ∷ words) = bytes_eq word (codes "-k")
+
+-- the words behind `-k`
+abbrev pub file_words : List (List ℕ) → List (List ℕ)
+file_words [] = []
+file_words (word ∷ words) = if bytes_eq word (codes "-k") then words else (word ∷ words)
+
+abbrev pub is_some_list : {A : Type 0} → List A → Bool
+is_some_list [] = false
+is_some_list (x ∷ xs) = true
+
+-- the words have a reading if they are the names of one or more files, perhaps behind `-k`
 abbrev pub is_reading : List (List ℕ) → Bool
-is_reading (word ∷ []) = is_file_name word
-is_reading _ = false
+is_reading words = is_some_list (file_words words) && are_file_names (file_words words)
 
-abbrev pub usage : List ℕ
-usage = codes "usage: isaprove [-k] FILE... | isaprove --generate N"
+-- the words as bytes
+abbrev pub names : List (String Global) → List (List ℕ)
+names words = map (λ word. string_bytes word) words
 
--- the run of these words, where the files gave these inputs for them
-abbrev pub run_of : List (List ℕ) → List Input → Part
-run_of words inputs = cond (is_reading words) (run_files empty_context inputs) (stop status.Usage usage)
+-- ---- states
+-- what the files gave for a word
+pub data Given : Type 0 where
+  Text : (bytes : List ℕ) → Given
+  Long : Given
+  Failed : Given
+
+-- a word, and what the files gave for it
+pub record Input : Type 0 where
+  pub name : List ℕ
+  pub given : Given
+
+pub data State : Type 0 where
+  -- the words are still to be read
+  Starts : (words : List (List ℕ)) → (inputs : List Input) → State
+  -- the next file is still to be opened
+  Opens : (progress : Progress) → (inputs : List Input) → State
+  -- the next command of this file is still to be taken
+  Takes : (progress : Progress) → (file : List ℕ) → (commands : List Command) → (inputs : List Input) → State
+  Stopped : (status : Status) → State
+
+-- nothing is declared, no lemma is open, and nothing has failed
+abbrev pub start : Bool → Progress
+start keeps = record { session = record { context = empty_context; lemma = None }; keeps_on = keeps; skips = false; first = None }
+
+-- ---- commands
+abbrev pub is_proof_command : Command → Bool
+is_proof_command (command.Apply line m) = true
+is_proof_command (command.By line m) = true
+is_proof_command (command.Done line) = true
+is_proof_command (command.Back line) = true
+is_proof_command (command.Oops line) = true
+is_proof_command (command.Print line count) = true
+is_proof_command _ = false
+
+-- the first failure of a run counts
+abbrev pub first_of : Option Failure → Failure → Option Failure
+first_of None failure = Some failure
+first_of (Some before) failure = Some before
+
+-- the lemma is dropped, and the proof commands behind it are skipped
+abbrev pub skipping : Progress → Failure → Progress
+skipping p failure = record p { session = dropped p.session; skips = true; first = first_of p.first failure }
+
+-- the command was accepted
+abbrev pub accepting : Progress → Session → Progress
+accepting p s = record p { session = s; skips = false }
+
+-- this is shown, if anything is
+abbrev pub show : Option Shown → List Piece
+show None = []
+show (Some shows) = ToOut shows ∷ []
+
+abbrev pub tell : List ℕ → List Piece
+tell line = ToErr line ∷ []
+
+-- the pieces of a step, and where it leads
+pub record Turn : Type 0 where
+  pub pieces : List Piece
+  pub state : State
+
+-- Where what comes of a command leads. Where a method gave no state the run stops, or goes on behind the proof where it is to keep on.
+abbrev pub turn_of : List ℕ → ℕ → Progress → (Progress → State) → Result Next Rejection → Turn
+turn_of file line p go (Ok n) = record { pieces = show n.shows; state = go (accepting p n.session) }
+turn_of file line p go (Err (rejection.Failed failure)) =
+    record { pieces = tell (failure_line file line failure); state = if p.keeps_on then go (skipping p failure) else Stopped (status.Failed failure) }
+turn_of file line p go (Err (rejection.Refused r)) = record { pieces = tell (refusal_line file r.line r.kind); state = Stopped status.Refused }
+
+-- ---- steps
+pub data Step : State → List Piece → State → Type 0 where
+  -- words
+  ReadWords : (words : List (List ℕ)) (inputs : List Input) → is_reading words ≡ true → Step (Starts words inputs) [] (Opens (start (keeps_on words)) inputs)
+  RefuseWords : (words : List (List ℕ)) (inputs : List Input) → is_reading words ≡ false → Step (Starts words inputs) (tell usage) (Stopped status.Usage)
+  -- Files. The first refusal in the whole text counts before its first command.
+  OpenFile : (p : Progress) (input : Input) (inputs : List Input) (bytes : List ℕ) (commands : List Command) → input.given ≡ Text bytes → reading_of bytes ≡ Ok commands → Step (Opens p (input ∷ inputs)) [] (Takes p input.name commands inputs)
+  RefuseText : (p : Progress) (input : Input) (inputs : List Input) (bytes : List ℕ) (r : Refused) → input.given ≡ Text bytes → reading_of bytes ≡ Err r → Step (Opens p (input ∷ inputs)) (tell (refusal_line input.name r.line r.kind)) (Stopped status.Refused)
+  RefuseLength : (p : Progress) (input : Input) (inputs : List Input) → input.given ≡ Long → Step (Opens p (input ∷ inputs)) (tell (long_line input.name)) (Stopped status.Refused)
+  FailToRead : (p : Progress) (input : Input) (inputs : List Input) → input.given ≡ Failed → Step (Opens p (input ∷ inputs)) (tell (unread_line input.name)) (Stopped status.ReadFault)
+  -- commands: after a failure, the proof commands up to the next command that is none are skipped
+  SkipCommand : (p : Progress) (file : List ℕ) (k : Command) (ks : List Command) (inputs : List Input) → (p.skips && is_proof_command k) ≡ true → Step (Takes p file (k ∷ ks) inputs) [] (Takes p file ks inputs)
+  TakeCommand : (p : Progress) (file : List ℕ) (k : Command) (ks : List Command) (inputs : List Input) (r : Result Next Rejection) (turn : Turn) → (p.skips && is_proof_command k) ≡ false → Comes p.session k r → turn_of file (line_of k) p (λ q. Takes q file ks inputs) r ≡ turn → Step (Takes p file (k ∷ ks) inputs) turn.pieces turn.state
+  -- at the end of a file no proof is open
+  CloseFile : (p : Progress) (file : List ℕ) (inputs : List Input) → p.session.lemma ≡ None → Step (Takes p file [] inputs) [] (Opens p inputs)
+  RefuseEnd : (p : Progress) (file : List ℕ) (inputs : List Input) (l : OpenLemma) → p.session.lemma ≡ Some l → Step (Takes p file [] inputs) (tell (refusal_line file l.lemma.line kind.OpenProof)) (Stopped status.Refused)
+
+-- from one state to another, with the pieces of the steps between
+pub data Reaches : State → List Piece → State → Type 0 where
+  Stays : (s : State) → Reaches s [] s
+  Goes : (s t u : State) (ps qs : List Piece) → Step s ps t → Reaches t qs u → Reaches s (ps ++ qs) u
+
+-- ---- statuses
+abbrev pub failure_code : Failure → ℕ
+failure_code (NoResult outside) = if nat_eq outside 0 then 1 else 7
+failure_code (Spent budget) = 2
 
 -- the number that tells a status
 abbrev pub code_of : Status → ℕ
-code_of status.NoResult = 1
+code_of (status.Failed failure) = failure_code failure
 code_of status.Refused = 3
 code_of status.ReadFault = 4
 code_of status.Usage = 64
 
--- the answer that tells how a run ended
-abbrev pub answer_of : End → ℕ
-answer_of (Goes c) = 0
-answer_of (Stops s) = code_of s
+abbrev pub first_code : Option Failure → ℕ
+first_code None = 0
+first_code (Some failure) = failure_code failure
 
+-- a run ends in this state, and this is its answer
+abbrev pub EndsWith : State → ℕ → Type 0
+EndsWith (Starts words inputs) answer = ⊥
+EndsWith (Opens p []) answer = answer ≡ first_code p.first
+EndsWith (Opens p (input ∷ inputs)) answer = ⊥
+EndsWith (Takes p file ks inputs) answer = ⊥
+EndsWith (Stopped s) answer = answer ≡ code_of s
+
+-- ---- what the files gave
 -- what files that tell these texts give for a name, where no fault comes
 abbrev pub given_text : Option (List ℕ) → Given
 given_text None = Failed
-given_text (Some bytes) = cond (nat_le (length bytes) limit) (Text bytes) Long
+given_text (Some bytes) = cond (nat_le (length bytes) LIMIT) (Text bytes) Long
 
 abbrev pub given_of : Texts → List ℕ → Given
-given_of texts name = given_text (text_of texts name)
+given_of texts name = given_text (file_text texts name)
 
 abbrev pub input_of : Texts → List ℕ → Input
 input_of texts name = record { name = name; given = given_of texts name }
@@ -142,38 +220,19 @@ abbrev pub gave : FilesSeen → FilesSeen → List Input → List Input
 gave before now inputs =
     cond (nat_lt before.faults now.faults) (fail_at inputs (now.place - 1)) inputs
 
-abbrev pub IsNoFailure : Given → Type 0
-IsNoFailure (Text bytes) = Unit {0}
-IsNoFailure Long = Unit {0}
-IsNoFailure Failed = ⊥
+-- it didn't fail, and a text is no longer than the limit
+abbrev pub IsTaken : Given → Type 0
+IsTaken (Text bytes) = length bytes ≤ LIMIT
+IsTaken Long = Unit {0}
+IsTaken Failed = ⊥
 
--- none of the inputs failed
-abbrev pub NoneFailed : List Input → Type 0
-NoneFailed [] = Unit {0}
-NoneFailed (input ∷ inputs) = IsNoFailure input.given × NoneFailed inputs
+abbrev pub AreTaken : List Input → Type 0
+AreTaken [] = Unit {0}
+AreTaken (input ∷ inputs) = IsTaken input.given × AreTaken inputs
 
--- The inputs are those of the words: by the texts where they are told, and else some that were given.
+-- The inputs are those of the names: by the texts where they are told, and else some that were given.
 abbrev pub AreInputs : Option Texts → List (List ℕ) → List Input → Type 0
-AreInputs texts words inputs =
+AreInputs texts names inputs =
     MatchOption texts
-    ((map (λ input. input.name) inputs ≡ words) × NoneFailed inputs)
-    (λ told. inputs ≡ map (input_of told) words)
-
--- the input as it was given: failed where the count of faults rose
-abbrev pub as_given : FilesSeen → FilesSeen → Input → Input
-as_given before now input =
-    record { name = input.name; given = cond (nat_lt before.faults now.faults) Failed input.given }
-
--- What was given for a name. Where a fault came, its place is told.
-pub record IsReading (before now : FilesSeen) (name : List ℕ) (given : Given) : Type 0 where
-  pub input : Input
-  pub are : AreInputs before.texts (name ∷ []) (input ∷ [])
-  pub named : input.name ≡ name
-  pub given_now : (as_given before now input).given ≡ given
-  pub within : IsWithin given
-  pub counts : before.faults ≤ now.faults
-  pub placed : before.faults < now.faults → now.place ≡ now.opens
-
--- the words as bytes
-abbrev pub names : List (String Global) → List (List ℕ)
-names words = map (λ word. string_bytes word) words
+    ((map (λ input. input.name) inputs ≡ names) × AreTaken inputs)
+    (λ told. inputs ≡ map (input_of told) names)

@@ -1,22 +1,25 @@
 //! The program: a batch prover over files.
 #![tactic(auto)]
 
-mod context;
-mod engine;
-mod output;
-mod proof;
-mod reading;
-mod refusal;
+mod asking;
+mod console;
+mod failure;
+mod files;
+mod message;
+mod plain;
+mod progress;
+mod session;
 mod status;
 #[cfg(test)]
 mod tests;
 mod top;
+mod words;
 
 use isa_io::{HostFiles, StreamSink};
 use std::io::ErrorKind;
 use std::process::ExitCode;
 use std::{env, io};
-pub use top::run;
+pub use top::{answers_have_causes, one_run, run, runs_are_sound};
 
 /// The status where no memory was found for the words.
 const MEMORY: u8 = 6;

@@ -4,20 +4,25 @@ ghost use Rattle.isaprove.specs.declared.status.Stop.TheVariants.{Memory, Write}
 ghost use Rattle.isaprove.specs.Run.{code_of};
 ghost use Rattle.isaprove.specs.Does.{stop_code};
 
+use crate::failure::Failure;
 use isa_io::WriteFailed;
 use std::alloc::{AllocError, AllocFailed};
 
 /// How a run ends before its last command.
-#[derive(Clone, Copy, Debug, PartialEq, Eq)]
+#[derive(Clone, Copy)]
 pub enum Status {
-    NoResult,
+    /// A command's method gave no state.
+    Failed(Failure),
+    /// A text was refused, or a file was too long.
     Refused,
+    /// A file could not be read.
     ReadFault,
+    /// The words have no reading.
     Usage,
 }
 
 /// Why a run goes on no further.
-#[derive(Clone, Copy, Debug, PartialEq, Eq)]
+#[derive(Clone, Copy)]
 pub enum Stop {
     Ended(Status),
     Memory,
@@ -30,7 +35,7 @@ impl Status {
         ensures { result ≡ code_of self }
     {
         match self {
-            Status::NoResult => 1,
+            Status::Failed(failure) => failure.code(),
             Status::Refused => 3,
             Status::ReadFault => 4,
             Status::Usage => 64,

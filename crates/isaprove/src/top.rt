@@ -1,155 +1,56 @@
 //! The top call.
-ghost use Rattle.std.specs.Prelude.{◌≡◌, ◌-◌, ◌^◌, ◌<◌, ◌+◌, ◌++◌, codes, string_bytes, map, IfOk, IfSome, MatchResult};
-ghost use Rattle.isa_io.specs.FilesSeen.{NoFault};
-ghost use Rattle.isaprove.specs.Causes.{IsUsage, IsReadFault};
-ghost use Rattle.isaprove.specs.Does.{Does, sinks};
-ghost use Rattle.isaprove.specs.Inputs.{given_view, RunsFile, RunsFiles, RunsWords, AnswersAny};
+ghost use Rattle.std.specs.Prelude.{◌≡◌, ◌-◌, ◌^◌, ◌<◌, map, IfSome, IfOk};
+ghost use Rattle.isaprove.specs.Does.{StopsWith};
+ghost use Rattle.isaprove.specs.Inputs.{RunsWords, AnswersAny, OpensNoMore};
+ghost use Rattle.isaprove.specs.Laws.{RunsAreSound, OneRun, AnswersHaveCauses};
 ghost use Rattle.isaprove.specs.Printed.{Answers};
-ghost use Rattle.isaprove.specs.Run.{IsReading, run_given, IsWithin, names, is_file_name, is_reading, run_of, gave, input_of};
-ghost use Rattle.isaprove.specs.declared.status.Stop.TheVariants.{Memory};
+ghost use Rattle.isaprove.specs.Run.{Starts, names, usage, gave, input_of, file_words, start, first_code};
+ghost use Rattle.isaprove.specs.Sinks.{sinks, sinks_of, IsSame};
+ghost use Rattle.isaprove.specs.declared.status.Status.TheVariants as status;
 
-use crate::context::Context;
-use crate::engine::run_text;
-use crate::output::report;
+use crate::console::Console;
+use crate::failure::Failure;
+use crate::files::run_files;
+use crate::progress::Progress;
+use crate::session::Session;
 use crate::status::{Status, Stop};
-use isa_io::{Files, ReadFail, Sink, read_file};
+use crate::words::{file_words, is_reading, keeps_on};
+use isa_io::{Files, Sink};
 use std::alloc::{AllocError, Global};
 
-/// No longer file is read.
-const LIMIT: usize = 16_777_216;
+const USAGE: &str = "usage: isaprove [-k] FILE... | isaprove --generate N\n";
 
-const USAGE: &str = "usage: isaprove [-k] FILE... | isaprove --generate N";
-
-/// What the files gave for a word.
-#[derive(Drop)]
-enum Reading {
-    Text(Vec<u8>),
-    Long,
-    Failed,
+/// Tells the usage, and stops the run.
+fn tell_usage<O: Sink, E: Sink>(console: &mut Console<'_, O, E>) -> Result<u8, Stop>
+    requires { (E.seen console.old.err.now).faults < 2 ^ 64 - 1 }
+    ensures same { IsSame console.old console.new }
+    ensures stops { StopsWith status.Usage usage result
+        (sinks_of O.seen E.seen console.old) (sinks_of O.seen E.seen console.new) }
+{
+    console.tell(USAGE.as_bytes())?;
+    Err(Stop::Ended(Status::Usage))
 }
 
-/// Reads a file.
-fn read_input<F: Files>(alloc: Global, name: &str, files: &mut F) -> Result<Reading, Stop>
-    requires faults { (F.seen files.old).faults < 2 ^ 64 - 1 }
-    requires opens { (F.seen files.old).opens < 2 ^ 64 - 1 }
-    ensures opens { (F.seen files.new).opens ≡ (F.seen files.old).opens + 1 }
-    ensures texts { (F.seen files.new).texts ≡ (F.seen files.old).texts }
-    ensures answer { MatchResult result
-        (λ reading. IsReading (F.seen files.old) (F.seen files.new) name.now (given_view reading))
-        (λ stop. (stop ≡ Memory) × NoFault (F.seen files.old) (F.seen files.new)) }
+/// The start of a run.
+fn start(alloc: Global, keeps_on: bool) -> Result<Progress, AllocError>
+    ensures { IfOk result (λ p. p ≡ start keeps_on) }
 {
-    match read_file(alloc, files, name, LIMIT) {
-        Ok(bytes) => Ok(Reading::Text(bytes)),
-        Err(ReadFail::TooLong) => Ok(Reading::Long),
-        Err(ReadFail::Failed) => Ok(Reading::Failed),
-        Err(ReadFail::Memory) => Err(Stop::Memory),
-    }
+    let session = Session::new(alloc)?;
+    Ok(Progress {
+        session,
+        keeps_on,
+        skips: false,
+        first: None,
+    })
 }
 
-fn too_long(alloc: Global, name: &str) -> Result<String, AllocError>
-    ensures { IfOk result (λ s. string_bytes s ≡ name.now ++ codes ": longer than 16777216 bytes") }
+/// The status of a run that went to its end.
+fn end_code(first: Option<Failure>) -> u8
+    ensures { result ≡ first_code first }
 {
-    format!(in alloc; "{name}: longer than 16777216 bytes")
-}
-
-fn unreadable(alloc: Global, name: &str) -> Result<String, AllocError>
-    ensures { IfOk result (λ s. string_bytes s ≡ name.now ++ codes ": cannot be read") }
-{
-    format!(in alloc; "{name}: cannot be read")
-}
-
-/// Runs what was read of a file.
-#[tactic(auto, using(crate::proofs::Printing::memory_failed))]
-fn run_reading<O: Sink, E: Sink>(
-    alloc: Global,
-    name: &str,
-    reading: &Reading,
-    context: &mut Context,
-    out: &mut O,
-    err: &mut E,
-) -> Result<(), Stop>
-    requires out { (O.seen out.old).faults < 2 ^ 64 - 1 }
-    requires err { (E.seen err.old).faults < 2 ^ 64 - 1 }
-    requires fits { IsWithin (given_view reading.now) }
-    ensures { Does (run_given context.old name.now (given_view reading.now)) result context.new
-        (sinks (O.seen out.old) (E.seen err.old)) (sinks (O.seen out.new) (E.seen err.new)) }
-{
-    match reading {
-        Reading::Text(bytes) => { run_text(alloc, name, context, bytes.as_slice(), out, err) }
-        Reading::Long => {
-            let message = too_long(alloc, name)?;
-            report(alloc, Status::Refused, message.as_str(), out, err)
-        }
-        Reading::Failed => {
-            let message = unreadable(alloc, name)?;
-            report(alloc, Status::ReadFault, message.as_str(), out, err)
-        }
-    }
-}
-
-/// Reads a file and runs it.
-fn run_file<F: Files, O: Sink, E: Sink>(
-    alloc: Global,
-    name: &str,
-    context: &mut Context,
-    files: &mut F,
-    out: &mut O,
-    err: &mut E,
-) -> Result<(), Stop>
-    requires faults { (F.seen files.old).faults < 2 ^ 64 - 1 }
-    requires opens { (F.seen files.old).opens < 2 ^ 64 - 1 }
-    requires out { (O.seen out.old).faults < 2 ^ 64 - 1 }
-    requires err { (E.seen err.old).faults < 2 ^ 64 - 1 }
-    ensures opens { (F.seen files.new).opens ≡ (F.seen files.old).opens + 1 }
-    ensures texts { (F.seen files.new).texts ≡ (F.seen files.old).texts }
-    ensures runs { RunsFile name.now (F.seen files.old) (F.seen files.new) context.old result
-        context.new
-        (sinks (O.seen out.old) (E.seen err.old)) (sinks (O.seen out.new) (E.seen err.new)) }
-{
-    let reading = read_input(alloc, name, files)?;
-    run_reading(alloc, name, &reading, context, out, err)
-}
-
-/// Reads files in order and runs each before the next is opened.
-fn run_files<F: Files, O: Sink, E: Sink>(
-    alloc: Global,
-    words: &[String],
-    context: &mut Context,
-    files: &mut F,
-    out: &mut O,
-    err: &mut E,
-) -> Result<(), Stop>
-    requires faults { (F.seen files.old).faults < 2 ^ 64 - 1 }
-    requires opens { (F.seen files.old).opens ≡ 0 }
-    requires out { (O.seen out.old).faults < 2 ^ 64 - 1 }
-    requires err { (E.seen err.old).faults < 2 ^ 64 - 1 }
-    ensures { RunsFiles (names words.now) (F.seen files.old) (F.seen files.new) context.old result
-        context.new
-        (sinks (O.seen out.old) (E.seen err.old)) (sinks (O.seen out.new) (E.seen err.new)) }
-{
-    for word in words {
-        run_file(alloc, word.as_str(), context, files, out, err)?;
-    }
-    Ok(())
-}
-
-/// Whether a word is the name of a file.
-fn is_file_name(word: &[u8]) -> bool
-    ensures { result ≡ is_file_name word.now }
-{
-    match word {
-        [first, ..] => *first != b'-',
-        [] => true,
-    }
-}
-
-/// Whether the words are the name of one file.
-fn is_reading(words: &[String]) -> bool
-    ensures { result ≡ is_reading (names words.now) }
-{
-    match words {
-        [word] => is_file_name(word.as_bytes()),
-        _ => false,
+    match first {
+        None => 0,
+        Some(failure) => failure.code(),
     }
 }
 
@@ -158,21 +59,22 @@ fn run_words<F: Files, O: Sink, E: Sink>(
     alloc: Global,
     words: &[String],
     files: &mut F,
-    out: &mut O,
-    err: &mut E,
-) -> Result<(), Stop>
+    console: &mut Console<'_, O, E>,
+) -> Result<u8, Stop>
     requires faults { (F.seen files.old).faults < 2 ^ 64 - 1 }
     requires opens { (F.seen files.old).opens ≡ 0 }
-    requires out { (O.seen out.old).faults < 2 ^ 64 - 1 }
-    requires err { (E.seen err.old).faults < 2 ^ 64 - 1 }
-    ensures { RunsWords (names words.now) (F.seen files.old) (F.seen files.new) result
-        (sinks (O.seen out.old) (E.seen err.old)) (sinks (O.seen out.new) (E.seen err.new)) }
+    requires out { (O.seen console.old.out.now).faults < 2 ^ 64 - 1 }
+    requires err { (E.seen console.old.err.now).faults < 2 ^ 64 - 1 }
+    ensures same { IsSame console.old console.new }
+    ensures runs { RunsWords (names words.now) (F.seen files.old) (F.seen files.new) result
+        (sinks_of O.seen E.seen console.old) (sinks_of O.seen E.seen console.new) }
 {
     if !is_reading(words) {
-        return report(alloc, Status::Usage, USAGE, out, err);
+        return tell_usage(console);
     }
-    let mut context = Context::new(alloc)?;
-    run_files(alloc, words, &mut context, files, out, err)
+    let mut progress = start(alloc, keeps_on(words))?;
+    run_files(alloc, file_words(words), &mut progress, files, console)?;
+    Ok(end_code(progress.first))
 }
 
 /// Runs the words, and answers the status.
@@ -180,24 +82,19 @@ fn answer<F: Files, O: Sink, E: Sink>(
     alloc: Global,
     words: &[String],
     files: &mut F,
-    out: &mut O,
-    err: &mut E,
+    console: &mut Console<'_, O, E>,
 ) -> u8
     requires faults { (F.seen files.old).faults < 2 ^ 64 - 1 }
     requires opens { (F.seen files.old).opens ≡ 0 }
-    requires out { (O.seen out.old).faults < 2 ^ 64 - 1 }
-    requires err { (E.seen err.old).faults < 2 ^ 64 - 1 }
-    // Over files that tell their texts.
-    ensures told { IfSome (F.seen files.old).texts (λ texts. Answers
-        (run_of (names words.now) (gave (F.seen files.old) (F.seen files.new) (map (input_of texts) (names words.now))))
-        result
-        (sinks (O.seen out.old) (E.seen err.old)) (sinks (O.seen out.new) (E.seen err.new))) }
-    // Over any files.
+    requires out { (O.seen console.old.out.now).faults < 2 ^ 64 - 1 }
+    requires err { (E.seen console.old.err.now).faults < 2 ^ 64 - 1 }
+    ensures same { IsSame console.old console.new }
     ensures any { AnswersAny (names words.now) (F.seen files.old) (F.seen files.new) result
-        (sinks (O.seen out.old) (E.seen err.old)) (sinks (O.seen out.new) (E.seen err.new)) }
+        (sinks_of O.seen E.seen console.old) (sinks_of O.seen E.seen console.new) }
+    ensures opens { OpensNoMore (names words.now) (F.seen files.new) }
 {
-    match run_words(alloc, words, files, out, err) {
-        Ok(()) => 0,
+    match run_words(alloc, words, files, console) {
+        Ok(code) => code,
         Err(stop) => stop.code(),
     }
 }
@@ -216,14 +113,29 @@ pub fn run<F: Files, O: Sink, E: Sink>(
     requires err { (E.seen err.old).faults < 2 ^ 64 - 1 }
     // Over files that tell their texts.
     ensures told { IfSome (F.seen files.old).texts (λ texts. Answers
-        (run_of (names words.now) (gave (F.seen files.old) (F.seen files.new) (map (input_of texts) (names words.now))))
+        (Starts (names words.now) (gave (F.seen files.old) (F.seen files.new) (map (input_of texts) (file_words (names words.now)))))
         result
         (sinks (O.seen out.old) (E.seen err.old)) (sinks (O.seen out.new) (E.seen err.new))) }
     // Over any files, whatever they gave.
     ensures any { AnswersAny (names words.now) (F.seen files.old) (F.seen files.new) result
         (sinks (O.seen out.old) (E.seen err.old)) (sinks (O.seen out.new) (E.seen err.new)) }
-    ensures usage { IsUsage (names words.now) result }
-    ensures read_fault { IsReadFault (names words.now) (F.seen files.old) (F.seen files.new) result }
+    ensures opens { OpensNoMore (names words.now) (F.seen files.new) }
 {
-    answer(alloc, words, files, out, err)
+    let mut console = Console { out, err };
+    answer(alloc, words, files, &mut console)
 }
+
+/// What a run shows is sound.
+pub fn runs_are_sound()
+    ensures { RunsAreSound }
+{}
+
+/// One run at most is stated.
+pub fn one_run()
+    ensures { OneRun }
+{}
+
+/// The causes of the answers 64 and 4.
+pub fn answers_have_causes()
+    ensures { AnswersHaveCauses }
+{}

@@ -4,5 +4,5 @@ use Rattle.isa_unify.proofs.steps.solve_both.Goals as goal
 
 pub returns : goal.returns
 returns c =
-    flexible_both c.solve_unknowns.result c.args.state c.args.equation.now c.args.left.now.name.now c.args.left.now.number c.args.left.now.typ.now c.args.right.now.name.now c.args.right.now.number c.args.right.now.typ.now c.as_slice.result.now c.as_slice-2.result.now
+    flexible_both c.solve_unknowns.result c.args.state c.args.equation.now c.args.left.name.now c.args.left.number c.args.left.typ.now c.args.right.name.now c.args.right.number c.args.right.typ.now c.in-Some.variables c.in-Some-2.others
     (search rules) (search rules) c.solve_unknowns.ensures

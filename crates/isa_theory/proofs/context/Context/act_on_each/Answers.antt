@@ -1,5 +1,5 @@
 use Rattle.std.proofs.Common.{arith, ◌<◌, length}
-use Rattle.isa_theory.specs.Applying.{with_attribute_on, with_attribute}
+use Rattle.isa_theory.specs.Applying.{with_attribute_on}
 use Rattle.isa_theory.proofs.Growing.{grows_on}
 use Rattle.isa_theory.proofs.Steps.{becomes_refused}
 use Rattle.isa_theory.proofs.Loops.{each_start, each_next, each_refused, each_end}

@@ -1,4 +1,4 @@
-use Rattle.isa_theory.specs.Applying.{with_attribute_on, with_attribute}
+use Rattle.isa_theory.specs.Applying.{with_attribute}
 use Rattle.isa_theory.proofs.Loops.{EachSoFar}
 use Rattle.isa_theory.proofs.context.Context.act_on_each.Given as goal
 

@@ -1,4 +1,4 @@
-use Rattle.isa_theory.specs.Applying.{with_labels, with_declared}
+use Rattle.isa_theory.specs.Applying.{with_declared}
 use Rattle.isa_theory.proofs.Loops.{EachSoFar}
 use Rattle.isa_theory.proofs.context.Context.declare_labels.Given as goal
 

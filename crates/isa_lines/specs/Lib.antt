@@ -1,4 +1,0 @@
-pub mod Answer
-pub mod Words
-pub mod Lines
-pub mod Commands

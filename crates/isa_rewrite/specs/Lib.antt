@@ -1,0 +1,12 @@
+pub mod Ticking
+pub mod Simpsets
+pub mod Unknowns
+pub mod Opening
+pub mod Weight
+pub mod Simplification
+pub mod Procedures
+pub mod Laws
+pub mod Traces
+pub mod Turns
+pub mod Rows
+pub mod ProcedureRows

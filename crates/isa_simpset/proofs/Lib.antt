@@ -1,0 +1,2 @@
+pub mod RankedLists
+pub mod Answering

@@ -1,2 +1,0 @@
-mod InnerLemmas
-mod GrammarLemmas

@@ -1,3 +1,0 @@
-pub mod Signatures
-pub mod Inner
-pub mod Grammar

@@ -1,9 +1,0 @@
-use Rattle.std.proofs.Common.{rules, refl}
-use Rattle.isaprove.proofs.Printing.{all_out, cut_out, returns_stop}
-use Rattle.isaprove.proofs.output.print.Goals as goal
-
-pub returns-in_err-write_all : goal.returns-in_err-write_all
-returns-in_err-write_all g c = λ shows k s. returns_stop _ _ _ _ _ _ c.from_residual.ensures.1 (cut_out _ _ _ _ shows (search rules))
-
-pub returns : goal.returns
-returns g c = λ shows k s. (refl, all_out _ _ _ _ shows s (search rules))
