@@ -102,15 +102,24 @@ fn answers_write_faults(rt: HostRuntime) -> Result<(), AllocError> {
 fn rejects_texts(rt: HostRuntime) -> Result<(), AllocError> {
     let alloc = rt.alloc();
     for (text, told) in [
-        (b"\xff\x00".as_slice(), b"t.thy:1: byte not allowed\n".as_slice()),
+        (
+            b"\xff\x00".as_slice(),
+            b"t.thy:1: byte not allowed\n".as_slice(),
+        ),
         (b"(* (* *)\n", b"t.thy:1: comment not closed\n"),
         (b"typedecl o typedecl \"o\n", b"t.thy:1: text not closed\n"),
-        (b"declare [[step_budget = 0]]", b"t.thy:1: number out of range\n"),
+        (
+            b"declare [[step_budget = 0]]",
+            b"t.thy:1: number out of range\n",
+        ),
         (b"declare [[step_budget = 9]]", b"t.thy:1: not built yet\n"),
         (b"typedecl\n", b"t.thy:1: expected name\n"),
         (b"foo", b"t.thy:1: unknown command foo\n"),
         (b"\nconsts c :: \"q\"\n", b"t.thy:2: unknown type q\n"),
-        (b"typedecl o\n \ntypedecl o\n", b"t.thy:3: duplicate type o\n"),
+        (
+            b"typedecl o\n \ntypedecl o\n",
+            b"t.thy:3: duplicate type o\n",
+        ),
         (
             b"typedecl o\nconsts c :: \"(o, o) o\"\n",
             b"t.thy:2: wrong number of arguments of o\n",
@@ -129,7 +138,11 @@ fn rejects_proofs(rt: HostRuntime) -> Result<(), AllocError> {
     let alloc = rt.alloc();
     let start = b"typedecl o\njudgment J :: \"o => prop\"\nlemma \"x\"\n";
     for (text, told, status) in [
-        (b"\n".as_slice(), b"t.thy:3: proof not closed\n".as_slice(), 3),
+        (
+            b"\n".as_slice(),
+            b"t.thy:3: proof not closed\n".as_slice(),
+            3,
+        ),
         (b"typedecl i\n", b"t.thy:4: proof is open\n", 3),
         (b"done\n", b"t.thy:4: no result\n", 1),
         (b"back\n", b"t.thy:4: no result\n", 1),
@@ -160,7 +173,10 @@ fn rejects_attributes(rt: HostRuntime) -> Result<(), AllocError> {
     let status = run(alloc, words.as_slice(), &mut files, &mut out, &mut err);
     assert_eq!(rt; status, 3);
     assert!(rt; err.written() == b"t.thy:10: wrong form for sym\n".as_slice());
-    assert!(rt; out.written().ends_with(b"theorem t: no (no A)\nNo subgoals!\n"));
+    assert!(rt;
+        out.written()
+            .ends_with(b"theorem t: no (no A)\nNo subgoals!\n")
+    );
     Ok(())
 }
 

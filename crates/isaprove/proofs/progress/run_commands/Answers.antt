@@ -20,9 +20,10 @@ returns-in_err-run_command-clause-does g c =
 
 pub loop-command-preserved : goal.loop-command-preserved
 loop-command-preserved g c =
-    let inside : c.loop-command.command-index < length c.args.commands.now = omega arith in
-    (same_trans _ _ _ c.loop-command.invariant.0 c.in_ok-run_command.ensures.same,
-    commands_passed _ _ _ _ _ _ c.command-item.result _ _ _ inside c.command-item.is c.loop-command.invariant.1 c.in_ok-run_command.ensures.does)
+    let inside : c.loop-command.command-index < length c.args.commands.now = omega arith in (
+      same_trans _ _ _ c.loop-command.invariant.0 c.in_ok-run_command.ensures.same,
+      commands_passed _ _ _ _ _ _ c.command-item.result _ _ _ inside c.command-item.is c.loop-command.invariant.1 c.in_ok-run_command.ensures.does,
+    )
 
 pub returns-clause-does : goal.returns-clause-does
 returns-clause-does g c =
